@@ -1,0 +1,11 @@
+use borrow.Author.Needs.{needs}
+use Rattle.host.proofs.mehkura_shape.Statement.{statement}
+use Rattle.host.proofs.mehkura_shape.Tie as tie
+
+pub mehkura-shape-spec : {M : Type 1} → statement M
+mehkura-shape-spec =
+    tie.close
+    (tie.spec
+    (λ c κs. search needs)
+    (λ c. rw (← c .before .shape-ok .ensures, c .if1 .taken))
+    (λ c. rw (← c .before .shape-ok .ensures, c .if1 .left)))

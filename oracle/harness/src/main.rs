@@ -1,0 +1,58 @@
+//! The program `harness`: see [`HELP`].
+
+mod ffi;
+mod shape_bench;
+mod shape_diff;
+
+use std::process::ExitCode;
+
+const HELP: &str = "\
+harness: compares the static library of the port with plain Rust
+
+Usage:
+  harness shape-diff COUNT SEED
+      Runs both shape tests on COUNT random runs of strips (translated, made at random, near misses, damaged, short
+      bytes) and on all byte strings of up to 3 bytes. Prints the verdicts for each class and each difference.
+      Some hundred runs are needed for every class to have both verdicts.
+  harness shape-bench
+      Measures both shape tests on the same translated strips and prints nanoseconds for each entry.
+  harness help | --help | -h
+      Prints this text.
+
+SEED is a number in decimal, or in hex with 0x.
+Exit status: 0 no difference, 1 a difference or a class without both verdicts, 2 wrong usage.
+";
+
+fn main() -> ExitCode {
+    let args: Vec<String> = std::env::args().skip(1).collect();
+    let args: Vec<&str> = args.iter().map(String::as_str).collect();
+    let answer = match args[..] {
+        ["help" | "--help" | "-h"] => {
+            print!("{HELP}");
+            Ok(true)
+        }
+        ["shape-diff", count, seed] => {
+            number(count).and_then(|count| number(seed).map(|seed| shape_diff::run(count, seed)))
+        }
+        ["shape-bench"] => Ok(shape_bench::run()),
+        [] => Err("no command".to_owned()),
+        [command @ ("shape-diff" | "shape-bench"), ..] => Err(format!("wrong arguments for `{command}`")),
+        [command, ..] => Err(format!("no command `{command}`")),
+    };
+    match answer {
+        Ok(true) => ExitCode::SUCCESS,
+        Ok(false) => ExitCode::from(1),
+        Err(message) => {
+            eprintln!("harness: {message}\nTry `harness --help`.");
+            ExitCode::from(2)
+        }
+    }
+}
+
+fn number(text: &str) -> Result<u64, String> {
+    let parsed = match text.strip_prefix("0x") {
+        Some(digits) => u64::from_str_radix(digits, 16),
+        None => text.parse(),
+    };
+    parsed.map_err(|error| format!("`{text}` is no number: {error}"))
+}

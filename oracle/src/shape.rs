@@ -1,0 +1,184 @@
+//! The shape test of 01 (refusal 7) in plain Rust: one pass over the bytes, a few words of state.
+//!
+//! This is the partner of the ported test in comparisons of answers and of speed.
+
+use crate::format::MAX_ENTRIES;
+
+/// Whether the bytes are a run of well-formed strips. No bytes are an empty run, which is well-formed.
+pub fn shape_ok(run: &[u8]) -> bool {
+    let mut rest = run;
+    while !rest.is_empty() {
+        match skip_strip(rest) {
+            Some(behind) => rest = behind,
+            None => return false,
+        }
+    }
+    true
+}
+
+/// The values of a strip so far. Each kind of value has a mask with a bit for each of its numbers. A strip has at most
+/// 63 values, since the end is one of its 64 entries.
+#[derive(Default)]
+struct Values {
+    count: u32,
+    words: u64,
+    truths: u64,
+    slots: u64,
+    addresses: u64,
+}
+
+impl Values {
+    /// The bit of the next number.
+    #[inline(always)]
+    fn next(&mut self) -> u64 {
+        let bit = 1 << self.count;
+        self.count += 1;
+        bit
+    }
+
+    #[inline(always)]
+    fn add_word(&mut self) {
+        self.words |= self.next();
+    }
+
+    #[inline(always)]
+    fn add_truth(&mut self) {
+        self.truths |= self.next();
+    }
+}
+
+/// Whether the reference names a value of the mask. Numbers not given yet have no bit in any mask.
+#[inline(always)]
+fn is(mask: u64, low: u8, high: u8) -> bool {
+    high == 0 && low < 64 && mask >> low & 1 == 1
+}
+
+/// Splits off a body of `N` bytes.
+#[inline(always)]
+fn body<const N: usize>(rest: &mut &[u8]) -> Option<[u8; N]> {
+    let (body, behind) = rest.split_first_chunk::<N>()?;
+    *rest = behind;
+    Some(*body)
+}
+
+/// `Some` if the condition holds.
+#[inline(always)]
+fn need(condition: bool) -> Option<()> {
+    condition.then_some(())
+}
+
+/// What lies behind the first strip, or `None` if its shape is wrong.
+fn skip_strip(strip: &[u8]) -> Option<&[u8]> {
+    let mut rest = strip;
+    let mut v = Values::default();
+    let mut open = false;
+    for _ in 0..MAX_ENTRIES {
+        let [kind] = body(&mut rest)?;
+        match kind {
+            1 => {
+                body::<4>(&mut rest)?;
+                v.add_word();
+            }
+            2 | 3 => v.add_truth(),
+            4 => {
+                let [cell] = body(&mut rest)?;
+                need(cell <= 254)?;
+                v.add_word();
+            }
+            5 => {
+                let [cell] = body(&mut rest)?;
+                need(cell <= 6)?;
+                v.add_truth();
+            }
+            6 => {
+                let [cell] = body(&mut rest)?;
+                need(cell <= 3)?;
+                v.add_truth();
+            }
+            7 => {
+                let [cell, a, b] = body(&mut rest)?;
+                need(cell <= 254 && is(v.words, a, b))?;
+            }
+            8 => {
+                let [cell, a, b] = body(&mut rest)?;
+                need(cell <= 6 && is(v.truths, a, b))?;
+            }
+            9 => {
+                let [cell, a, b] = body(&mut rest)?;
+                need(cell <= 3 && is(v.truths, a, b))?;
+            }
+            10 => {
+                let [slot] = body(&mut rest)?;
+                need(slot <= 31)?;
+                v.slots |= v.next();
+            }
+            11 => {
+                let [a, b, c, d, e, f, g, h] = body(&mut rest)?;
+                need(is(v.slots, a, b) && is(v.words, c, d) && is(v.words, e, f) && is(v.words, g, h))?;
+                v.addresses |= v.next();
+            }
+            12 => {
+                let [a, b] = body(&mut rest)?;
+                need(is(v.addresses, a, b))?;
+                v.add_word();
+            }
+            20..=27 => {
+                let [a, b] = body(&mut rest)?;
+                need(is(v.words, a, b))?;
+                v.add_word();
+            }
+            40..=52 => {
+                let [a, b, c, d] = body(&mut rest)?;
+                need(is(v.words, a, b) && is(v.words, c, d))?;
+                v.add_word();
+            }
+            60..=69 => {
+                let [a, b, c, d] = body(&mut rest)?;
+                need(is(v.words, a, b) && is(v.words, c, d))?;
+                v.add_truth();
+            }
+            80 => {
+                let [a, b] = body(&mut rest)?;
+                need(is(v.truths, a, b))?;
+                v.add_truth();
+            }
+            81..=83 => {
+                let [a, b, c, d] = body(&mut rest)?;
+                need(is(v.truths, a, b) && is(v.truths, c, d))?;
+                v.add_truth();
+            }
+            90 => {
+                let [a, b, c, d, e, f] = body(&mut rest)?;
+                need(is(v.truths, a, b) && is(v.words, c, d) && is(v.words, e, f))?;
+                v.add_word();
+            }
+            91 | 92 => {
+                let [a, b, c, d, e, f] = body(&mut rest)?;
+                need(is(v.words, a, b) && is(v.words, c, d) && is(v.words, e, f))?;
+                v.add_word();
+            }
+            93 => {
+                let [a, b, c, d, e, f, g, h] = body(&mut rest)?;
+                need(is(v.words, a, b) && is(v.words, c, d) && is(v.words, e, f) && is(v.words, g, h))?;
+                v.add_word();
+            }
+            100 => {
+                let [a, b] = body(&mut rest)?;
+                need(!open && is(v.truths, a, b))?;
+                open = true;
+            }
+            // The close must stand directly before the end. So nothing opens again behind it.
+            101 => {
+                need(open && rest.first() == Some(&255))?;
+                open = false;
+            }
+            110 => {
+                let [note] = body(&mut rest)?;
+                need((1..=5).contains(&note))?;
+            }
+            255 => return (!open).then_some(rest),
+            _ => return None,
+        }
+    }
+    None
+}
