@@ -1,10 +1,12 @@
 //! The judge of the port: the unchanged text of the reference translator, run over stand-ins that record each call.
 //!
 //! - [`translate`] and [`translate_into`] give a record's strip or its refusal.
-//! - [`shape`] tests a run of strips in plain Rust.
-//! - [`generate`] makes random records, [`strips`] random strips, [`vectors`] the stored list of answers.
-//! - [`print`] is the strip printer.
+//! - [`shape`] tests a run of strips in plain Rust, [`evaluate`] runs it.
+//! - [`generate`] makes random records, [`strips`] random strips, [`starts`] random states and lists of constants,
+//!   [`vectors`] the stored list of answers.
+//! - [`mod@print`] is the strip printer.
 
+pub mod evaluate;
 pub mod extraction;
 pub mod format;
 pub mod generate;
@@ -14,6 +16,7 @@ mod reference;
 pub mod rng;
 pub mod shape;
 mod standins;
+pub mod starts;
 pub mod strips;
 pub mod vectors;
 

@@ -55,7 +55,7 @@ fn is(mask: u64, low: u8, high: u8) -> bool {
 
 /// Splits off a body of `N` bytes.
 #[inline(always)]
-fn body<const N: usize>(rest: &mut &[u8]) -> Option<[u8; N]> {
+pub(crate) fn body<const N: usize>(rest: &mut &[u8]) -> Option<[u8; N]> {
     let (body, behind) = rest.split_first_chunk::<N>()?;
     *rest = behind;
     Some(*body)

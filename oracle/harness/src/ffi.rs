@@ -1,9 +1,21 @@
 //! The functions of the static library, each with a safe wrapper. Nothing compares these declarations with the
 //! library's own, so they are few and take numbers and byte lists only.
 
+use oracle::evaluate::State;
+
 mod raw {
     unsafe extern "C" {
         pub fn mehkura_shape(run: *const u8, len: usize) -> u32;
+        pub fn mehkura_evaluate(
+            run: *const u8,
+            run_len: usize,
+            registers: *mut u32,
+            registers_len: usize,
+            truths: *mut u8,
+            truths_len: usize,
+            constants: *const u32,
+            constants_len: usize,
+        ) -> u32;
     }
 }
 
@@ -11,4 +23,41 @@ mod raw {
 pub fn shape(run: &[u8]) -> u32 {
     // SAFETY: the pointer and the length are those of a live slice, which the library only reads.
     unsafe { raw::mehkura_shape(run.as_ptr(), run.len()) }
+}
+
+/// A state as the library takes it: truths are the predicates and then the flags Z, S, C, O, each 0 or 1.
+#[derive(Clone, Debug, PartialEq, Eq)]
+pub struct Cells {
+    pub registers: [u32; 255],
+    pub truths: [u8; 11],
+}
+
+impl From<&State> for Cells {
+    fn from(state: &State) -> Cells {
+        let mut truths = [0; 11];
+        for (byte, truth) in truths.iter_mut().zip(state.predicates.iter().chain(&state.flags)) {
+            *byte = u8::from(*truth);
+        }
+        Cells { registers: state.registers, truths }
+    }
+}
+
+/// The number that the library gives for a run of strips: 0 if it is evaluated, else 7, 8 or 9. The cells become those
+/// behind the run; a refusal must leave them as they are.
+pub fn evaluate(run: &[u8], cells: &mut Cells, constants: &[u32]) -> u32 {
+    let Cells { registers, truths } = cells;
+    // SAFETY: the pointers and lengths are those of live slices. The library writes to registers and truths alone,
+    // which are borrowed for that and do not overlap.
+    unsafe {
+        raw::mehkura_evaluate(
+            run.as_ptr(),
+            run.len(),
+            registers.as_mut_ptr(),
+            registers.len(),
+            truths.as_mut_ptr(),
+            truths.len(),
+            constants.as_ptr(),
+            constants.len(),
+        )
+    }
 }

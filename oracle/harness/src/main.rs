@@ -1,6 +1,9 @@
 //! The program `harness`: see [`HELP`].
 
+mod evaluate_bench;
+mod evaluate_diff;
 mod ffi;
+mod runs;
 mod shape_bench;
 mod shape_diff;
 
@@ -16,11 +19,19 @@ Usage:
       Some hundred runs are needed for every class to have both verdicts.
   harness shape-bench
       Measures both shape tests on the same translated strips and prints nanoseconds for each entry.
+  harness evaluate-diff COUNT SEED
+      Runs both evaluations on COUNT random runs of strips (translated, made at random, near misses, damaged, mixed)
+      from random states with random lists of constants. Compares the number and the whole state, which a refusal must
+      leave as it was. Prints the answers for each class and each difference.
+      Some thousand runs are needed for every class to have its answers.
+  harness evaluate-bench
+      Measures both evaluations, each with its shape test, on the same translated strips and prints nanoseconds for each
+      entry.
   harness help | --help | -h
       Prints this text.
 
 SEED is a number in decimal, or in hex with 0x.
-Exit status: 0 no difference, 1 a difference or a class without both verdicts, 2 wrong usage.
+Exit status: 0 no difference, 1 a difference or a class that lacks an answer, 2 wrong usage.
 ";
 
 fn main() -> ExitCode {
@@ -35,8 +46,14 @@ fn main() -> ExitCode {
             number(count).and_then(|count| number(seed).map(|seed| shape_diff::run(count, seed)))
         }
         ["shape-bench"] => Ok(shape_bench::run()),
+        ["evaluate-diff", count, seed] => {
+            number(count).and_then(|count| number(seed).map(|seed| evaluate_diff::run(count, seed)))
+        }
+        ["evaluate-bench"] => Ok(evaluate_bench::run()),
         [] => Err("no command".to_owned()),
-        [command @ ("shape-diff" | "shape-bench"), ..] => Err(format!("wrong arguments for `{command}`")),
+        [command @ ("shape-diff" | "shape-bench" | "evaluate-diff" | "evaluate-bench"), ..] => {
+            Err(format!("wrong arguments for `{command}`"))
+        }
         [command, ..] => Err(format!("no command `{command}`")),
     };
     match answer {

@@ -1,14 +1,13 @@
 //! The differential test of the shape test: the same runs through plain Rust and through the library.
 
 use oracle::format::encode;
-use oracle::generate::random_admitted;
 use oracle::print::hex;
 use oracle::rng::Rng;
 use oracle::shape::shape_ok;
 use oracle::strips::{damage, near_miss, random_bytes, random_strip};
-use oracle::{SLOTS, translate};
 
 use crate::ffi;
+use crate::runs::{Make, damaged, translated, translated_strip};
 
 /// Differences that are printed in full.
 const SHOWN: u64 = 20;
@@ -23,7 +22,7 @@ enum Ought {
 struct Class {
     name: &'static str,
     ought: Ought,
-    make: fn(&mut Rng) -> Vec<u8>,
+    make: Make,
 }
 
 const CLASSES: [Class; 7] = [
@@ -36,15 +35,6 @@ const CLASSES: [Class; 7] = [
     Class { name: "random bytes", ought: Ought::Both, make: random_bytes },
 ];
 
-fn translated_strip(rng: &mut Rng) -> Vec<u8> {
-    let record = random_admitted(rng);
-    translate(&record.to_bytes(), &mut [0; SLOTS]).expect("an admitted record")
-}
-
-fn translated(rng: &mut Rng) -> Vec<u8> {
-    (0..1 + rng.below(6)).flat_map(|_| translated_strip(rng)).collect()
-}
-
 fn made(rng: &mut Rng) -> Vec<u8> {
     (0..1 + rng.below(3)).flat_map(|_| encode(&random_strip(rng))).collect()
 }
@@ -52,12 +42,6 @@ fn made(rng: &mut Rng) -> Vec<u8> {
 fn near_misses(rng: &mut Rng) -> Vec<u8> {
     let entries = random_strip(rng);
     near_miss(rng, entries)
-}
-
-fn damaged(rng: &mut Rng, make: fn(&mut Rng) -> Vec<u8>) -> Vec<u8> {
-    let mut run = make(rng);
-    damage(rng, &mut run);
-    run
 }
 
 fn last_damaged(rng: &mut Rng) -> Vec<u8> {

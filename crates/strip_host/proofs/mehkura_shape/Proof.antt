@@ -1,6 +1,6 @@
 use borrow.Author.Needs.{needs}
-use Rattle.host.proofs.mehkura_shape.Statement.{statement}
-use Rattle.host.proofs.mehkura_shape.Tie as tie
+use Rattle.strip_host.proofs.mehkura_shape.Statement.{statement}
+use Rattle.strip_host.proofs.mehkura_shape.Tie as tie
 
 pub mehkura-shape-spec : {M : Type 1} → statement M
 mehkura-shape-spec =

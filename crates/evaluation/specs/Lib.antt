@@ -1,0 +1,5 @@
+pub mod Word
+pub mod Value
+pub mod State
+pub mod Machine
+pub mod Kept

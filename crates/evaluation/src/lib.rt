@@ -1,0 +1,13 @@
+// Evaluation of runs of strips by the Khronos definitions.
+mod machine;
+mod operation;
+mod state;
+mod value;
+mod word;
+
+pub use machine::Evaluated;
+pub use machine::Outcome;
+pub use machine::Refusal;
+pub use machine::evaluate;
+pub use state::State;
+pub use value::Value;

@@ -1,0 +1,172 @@
+//! The differential test of evaluation: the same runs, states and constants through plain Rust and through the library.
+
+use oracle::evaluate::{State, evaluate};
+use oracle::format::encode;
+use oracle::print::hex;
+use oracle::rng::Rng;
+use oracle::starts::{ALL_WORDS, random_list_len, random_state, random_words};
+use oracle::strips::{damage, evaluation_strip, near_miss, random_bytes, random_strip};
+
+use crate::ffi::{self, Cells};
+use crate::runs::{Make, damaged, translated, translated_strip};
+
+/// Differences that are printed in full.
+const SHOWN: u64 = 20;
+
+/// The answers: 0 for a run that is evaluated, and the refusals.
+const ANSWERS: [u32; 4] = [0, 7, 8, 9];
+
+struct Class {
+    name: &'static str,
+    /// The answers that must occur.
+    must: &'static [u32],
+    /// Further answers that may occur.
+    may: &'static [u32],
+    /// Whether every constant word is lent.
+    all_lent: bool,
+    make: Make,
+}
+
+const CLASSES: [Class; 9] = [
+    Class { name: "translated, all lent", must: &[0], may: &[], all_lent: true, make: |rng| long_translated(rng) },
+    Class { name: "translated", must: &[0, 9], may: &[], all_lent: false, make: translated },
+    Class { name: "hand-made", must: &[0, 8, 9], may: &[], all_lent: false, make: made },
+    Class { name: "of any values", must: &[0, 8, 9], may: &[], all_lent: false, make: |rng| of_any_values(rng) },
+    Class { name: "near miss", must: &ANSWERS, may: &[], all_lent: false, make: |rng| near_misses(rng) },
+    Class {
+        name: "translated, damaged",
+        must: &ANSWERS,
+        may: &[],
+        all_lent: false,
+        make: |rng| damaged(rng, translated),
+    },
+    Class { name: "hand-made, damaged", must: &ANSWERS, may: &[], all_lent: false, make: |rng| damaged(rng, made) },
+    Class { name: "mixed", must: &ANSWERS, may: &[], all_lent: false, make: |rng| mixed(rng) },
+    Class { name: "random bytes", must: &[0, 7], may: &[8, 9], all_lent: false, make: random_bytes },
+];
+
+fn long_translated(rng: &mut Rng) -> Vec<u8> {
+    (0..1 + rng.below(40)).flat_map(|_| translated_strip(rng)).collect()
+}
+
+fn made(rng: &mut Rng) -> Vec<u8> {
+    (0..1 + rng.below(4)).flat_map(|_| encode(&evaluation_strip(rng))).collect()
+}
+
+fn of_any_values(rng: &mut Rng) -> Vec<u8> {
+    (0..1 + rng.below(3)).flat_map(|_| encode(&random_strip(rng))).collect()
+}
+
+fn near_misses(rng: &mut Rng) -> Vec<u8> {
+    let entries = evaluation_strip(rng);
+    near_miss(rng, entries)
+}
+
+/// Strips of all sorts; one run in eight has a last strip that may be damaged.
+fn mixed(rng: &mut Rng) -> Vec<u8> {
+    let mut run = Vec::new();
+    for _ in 0..1 + rng.below(8) {
+        match rng.below(8) {
+            0 => run.extend(of_any_values(rng)),
+            1..=3 => run.extend(encode(&evaluation_strip(rng))),
+            _ => run.extend(translated_strip(rng)),
+        }
+    }
+    if rng.one_in(8) {
+        let mut last = if rng.one_in(2) { translated_strip(rng) } else { near_misses(rng) };
+        damage(rng, &mut last);
+        run.extend(last);
+    }
+    run
+}
+
+/// The first cell in which the two differ.
+fn first_difference(plain: &Cells, library: &Cells) -> String {
+    let register = (0..plain.registers.len()).find(|&at| plain.registers[at] != library.registers[at]);
+    let truth = (0..plain.truths.len()).find(|&at| plain.truths[at] != library.truths[at]);
+    match (register, truth) {
+        (Some(at), _) => {
+            format!("register {at} is {:#010x}, in the library {:#010x}", plain.registers[at], library.registers[at])
+        }
+        (None, Some(at)) => format!("truth {at} is {}, in the library {}", plain.truths[at], library.truths[at]),
+        (None, None) => "equal states".to_owned(),
+    }
+}
+
+/// Counts of one class.
+#[derive(Default)]
+struct Tally {
+    answers: [u64; ANSWERS.len()],
+    different: u64,
+}
+
+impl Tally {
+    fn compare(&mut self, name: &str, run: &[u8], state: &State, constants: &[u32]) -> Option<String> {
+        let plain = evaluate(run, state, constants);
+        // A refusal leaves the start.
+        let plain_cells = Cells::from(plain.as_ref().unwrap_or(state));
+        let plain_number = plain.err().map_or(0, |refusal| refusal.number());
+        let mut cells = Cells::from(state);
+        let number = ffi::evaluate(run, &mut cells, constants);
+        let place = ANSWERS.iter().position(|answer| *answer == plain_number).expect("there are no other answers");
+        self.answers[place] += 1;
+        if number == plain_number && cells == plain_cells {
+            return None;
+        }
+        self.different += 1;
+        let difference = first_difference(&plain_cells, &cells);
+        let len = constants.len();
+        Some(format!("({name}): plain {plain_number}, library {number}; {difference}; {len} words, run {}", hex(run)))
+    }
+
+    /// Prints the counts, and says whether they are as they ought to be.
+    fn report(&self, class: &Class) -> bool {
+        let mut complaint = String::new();
+        for (answer, times) in ANSWERS.iter().zip(self.answers) {
+            if class.must.contains(answer) {
+                if times == 0 {
+                    complaint += &format!("  <- lacks answer {answer}");
+                }
+            } else if times > 0 && !class.may.contains(answer) {
+                complaint += &format!("  <- holds answer {answer}");
+            }
+        }
+        let [done, shape, undefined, constant] = self.answers;
+        let (name, different) = (class.name, self.different);
+        println!("{name:<22} {done:>9} {shape:>9} {undefined:>9} {constant:>9} {different:>10}{complaint}");
+        complaint.is_empty() && different == 0
+    }
+}
+
+/// Compares on `count` random runs, shared out among the classes. True if there is no difference and every class has
+/// the answers that it ought to have.
+pub fn run(count: u64, seed: u64) -> bool {
+    let mut rng = Rng::new(seed);
+    let words = random_words(&mut rng);
+    let mut shown = 0;
+    let mut tallies: [Tally; CLASSES.len()] = Default::default();
+    for index in 0..count {
+        let at = (index % CLASSES.len() as u64) as usize;
+        let class = &CLASSES[at];
+        let run = (class.make)(&mut rng);
+        let state = random_state(&mut rng);
+        let len = if class.all_lent { ALL_WORDS } else { random_list_len(&mut rng, &run, &state, &words) };
+        if let Some(difference) = tallies[at].compare(class.name, &run, &state, &words[..len]) {
+            shown += 1;
+            if shown <= SHOWN {
+                println!("difference at run {index} {difference}");
+            }
+        }
+    }
+
+    if shown > SHOWN {
+        println!("{} more differences", shown - SHOWN);
+    }
+    println!("{:<22} {:>9} {:>9} {:>9} {:>9} {:>10}", "", "evaluated", "7", "8", "9", "different");
+    let mut fine = true;
+    for (class, tally) in CLASSES.iter().zip(&tallies) {
+        fine &= tally.report(class);
+    }
+    println!("{}", if fine { "no difference" } else { "FAILED" });
+    fine
+}
