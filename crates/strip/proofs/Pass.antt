@@ -3,7 +3,7 @@ use mathlib.Core.Path.{_≡_, refl, ap, ap₂, _∙_, sym}
 use mathlib.Core.List.{List, [], _∷_, _++_, append-nil}
 use mathlib.Core.Option.{Option, none, some}
 use mathlib.Core.Bool.{Bool, true, false, cond, not, _&&_, and-true, and-false, and-assoc, true≢false, false≢true}
-use Prim.Native.Nat.{ℕ, zero, suc, _+_, _/_, _%_, _^_, _≤_, _<_, max}
+use Prim.Native.Nat.{ℕ, zero, suc, _+_, _-_, _/_, _%_, _^_, _≤_, _<_, max}
 use native.Mathlib.Omega.{arith}
 use native.Mathlib.Numerals.{add-one}
 use lib.ListN.{length, getD, length-append, List·getD-append, List·getD-eq-default}
@@ -18,12 +18,19 @@ use Rattle.strip.specs.declared.shape.Shape.{Shape}
 use Rattle.strip.specs.Format.{Format, formatOf}
 use Rattle.strip.specs.Entry.{kindOf, cellsOf, refsOf, readsOf}
 use Rattle.strip.specs.Shape.{all, count, isOpen, isClose, isEnd, ended, cellIn, cellOk, makes, names, refsPass, refsOk, endAlone, closesLast, blocksOk, stripOk, grown, joined, stripsOf, decode, allOk, shapeOk}
-use Rattle.strip.specs.Pass.{Room, fresh, bitAt, maskOf, has, phaseAfter, inPhase, refused, fits, pushed, moved, after, stepOf, passFrom}
+use Rattle.strip.specs.Pass.{Room, fresh, refused, bitAt, maskOf, has, with, counted, pushed, placed, opened, closed, after, fits, stepOf, passFrom}
+use Rattle.strip.specs.Pass as P
 use Rattle.strip.proofs.Digits.{digit, digit-lt, digit-0, digit-or, digit-pow}
 use Rattle.strip.proofs.Tests.{and-left, and-right}
 use Rattle.strip.proofs.Table.{result-le}
 
 -- ---- a strip that goes on: n entries and the values `before` are behind us, and the phase is q
+
+-- phases: 0 no open yet, 1 in the block, 2 behind the close, 3 behind the end, 4 nothing may stand here
+phaseAfter : ℕ → ℕ → ℕ
+phaseAfter p k =
+    cond (eqb k 100) (cond (eqb p 0) 1 4)
+    (cond (eqb k 101) (cond (eqb p 1) 2 4) (cond (eqb k 255) (cond (eqb p 1) 4 3) (cond (ltb p 2) p 4)))
 
 -- the blocks of what is left
 blocksFrom : ℕ → List Entry → Bool
@@ -221,12 +228,15 @@ refs-agree t u h [] (r ∷ rs) = refl
 refs-agree t u h (kind ∷ kinds) [] = refl
 refs-agree t u h (kind ∷ kinds) (r ∷ rs) = ap₂ _&&_ (h kind r) (refs-agree t u h kinds rs)
 
+-- what a state keeps of a strip: n entries, the phase q, the kinds of the values
 record Keeps (g : Shape) (n q : ℕ) (before : List ℕ) : Type 0 where
-  entries : g .entries ≡ n
-  phase : g .phase ≡ q
+  few : n < 64
+  left : g .left ≡ cond (eqb q 2) 1 (64 - n)
+  begun : eqb (g .left) 64 ≡ eqb n 0
+  inside : g .inside ≡ eqb q 1
   phases : q ≤ 2
   values : g .values ≡ length before
-  few : length before ≤ n
+  small : length before ≤ n
   kinds : (kind r : ℕ) → has g kind r ≡ names before kind r
 
 mask-fresh : (kind : ℕ) → maskOf fresh kind ≡ 0
@@ -242,7 +252,7 @@ mask-fresh kind = go (eqb kind 1) (eqb kind 2) (eqb kind 3) (eqb kind 4)
 
 keeps-fresh : Keeps fresh 0 0 []
 unfolding bitAt names digit
-keeps-fresh = record { entries = refl; phase = refl; phases = omega arith; values = refl; few = omega arith; kinds = λ kind r. rw (mask-fresh kind, digit-0 r, le-ltb r 0 (omega arith)) (and-false (ltb r 64)) }
+keeps-fresh = record { few = omega arith; left = refl; begun = refl; inside = refl; phases = omega arith; values = refl; small = omega arith; kinds = λ kind r. rw (mask-fresh kind, digit-0 r, le-ltb r 0 (omega arith)) (and-false (ltb r 64)) }
 
 -- one value more
 module _ (g : Shape) where
@@ -326,65 +336,201 @@ module _ (g : Shape) (before : List ℕ) (values : g .values ≡ length before) 
       go true p = rw (eqb-true r (length before) p) (has-new other ∙ sym (names-new other))
       go false p = let ne = eqb-false r (length before) p in has-away other r ne ∙ kinds other r ∙ sym (names-away other r ne)
 
-  keeps-pushed : (n q : ℕ) → g .entries ≡ n → g .phase ≡ q → q ≤ 2 → length before < n → Keeps (pushed g kind) n q (before ++ kind ∷ [])
+  keeps-pushed : (n q : ℕ) → n < 64 → g .left ≡ cond (eqb q 2) 1 (64 - n) → eqb (g .left) 64 ≡ eqb n 0 → g .inside ≡ eqb q 1 → q ≤ 2 → length before < n → Keeps (pushed g kind) n q (before ++ kind ∷ [])
   unfolding pushed
-  keeps-pushed n q e p two few =
+  keeps-pushed n q few left begun inside two more =
       let long : length (before ++ kind ∷ []) ≡ length before + 1 = length-append before (kind ∷ []) in
-      record { entries = e; phase = p; phases = two; values = ap (λ (m : ℕ). m + 1) values ∙ sym long; few = omega (arith, long); kinds = has-grown }
+      record { few = few; left = left; begun = begun; inside = inside; phases = two; values = ap (λ (m : ℕ). m + 1) values ∙ sym long; small = omega (arith, long); kinds = has-grown }
 
--- an entry
-module _ (g : Shape) (n q : ℕ) (before : List ℕ) (w : Keeps g n q before) (e : Entry) where
-  room : n < 64 → Room g
-  room s = record { entries = omega (arith, w .entries); values = omega (arith, w .entries, w .values, w .few) }
+-- ---- how many entries may still come
+leftBy : Bool → ℕ → Bool → Bool → ℕ
+leftBy inside left o c = cond o (cond inside 0 (left - 1)) (cond c (cond inside (cond (ltb left 2) 0 1) 0) (left - 1))
 
-  -- the step takes what may stand
-  step-is : n < 64 → (b : Bool) → mayStand n q before e ≡ b → stepOf g e ≡ cond b (after g (kindOf e)) (refused g)
-  unfolding stepOf mayStand fits
-  step-is s b p =
-      ap (λ (t : Bool). cond t (after g (kindOf e)) (refused g))
-      (ap₂ (λ (z : ℕ) (r : Bool). not (eqb (phaseAfter z (kindOf e)) 4) && (cellOk (formatOf (kindOf e)) e && r))
-      (w .phase)
-      (refs-agree (has g) (names before) (w .kinds) (formatOf (kindOf e) .operands) (refsOf e))
-      ∙ (rw (lt-ltb n 64 s) at p))
+after-left-by : (g : Shape) (k : ℕ) → eqb k 255 ≡ false → after g k .left ≡ leftBy (g .inside) (g .left) (eqb k 100) (eqb k 101)
+unfolding after opened closed placed pushed leftBy
+after-left-by g k x = rw x (go (eqb k 100) (eqb k 101) (g .inside) (eqb (formatOf k .result) 0))
+  where
+    go : (o c i z : Bool)
+        → (cond o (cond i refused (with g (g .left - 1) true)) (cond c (cond i (with g (cond (ltb (g .left) 2) 0 1) false) refused) (cond z (counted g) (pushed (counted g) (formatOf k .result))))) .left
+        ≡ leftBy i (g .left) o c
+    go true c true z = refl
+    go true c false z = refl
+    go false true true z = refl
+    go false true false z = refl
+    go false false i true = refl
+    go false false i false = refl
 
-  after-is : (b : Bool) → eqb (phaseAfter q (kindOf e)) 3 ≡ b → after g (kindOf e) ≡ cond b fresh (cond (eqb (formatOf (kindOf e) .result) 0) (moved g (phaseAfter q (kindOf e))) (pushed (moved g (phaseAfter q (kindOf e))) (formatOf (kindOf e) .result)))
-  unfolding after
-  after-is b p =
-      ap (λ (z : ℕ). cond (eqb (phaseAfter z (kindOf e)) 3) fresh (cond (eqb (formatOf (kindOf e) .result) 0) (moved g (phaseAfter z (kindOf e))) (pushed (moved g (phaseAfter z (kindOf e))) (formatOf (kindOf e) .result)))) (w .phase)
-      ∙ ap (λ (c : Bool). cond c fresh (cond (eqb (formatOf (kindOf e) .result) 0) (moved g (phaseAfter q (kindOf e))) (pushed (moved g (phaseAfter q (kindOf e))) (formatOf (kindOf e) .result)))) p
+insideBy : Bool → Bool → Bool → Bool
+insideBy inside o c = cond o (not inside) (cond c false inside)
 
-  can-stand : mayStand n q before e ≡ true → (n < 64) × (eqb (phaseAfter q (kindOf e)) 4 ≡ false)
-  unfolding mayStand
-  can-stand ok = (ltb-true n 64 (and-left (ltb n 64) _ ok), not-true (eqb (phaseAfter q (kindOf e)) 4) (and-left (not (eqb (phaseAfter q (kindOf e)) 4)) _ (and-right (ltb n 64) _ ok)))
+after-inside-by : (g : Shape) (k : ℕ) → eqb k 255 ≡ false → after g k .inside ≡ insideBy (g .inside) (eqb k 100) (eqb k 101)
+unfolding after opened closed placed pushed insideBy
+after-inside-by g k x = rw x (go (eqb k 100) (eqb k 101) (g .inside) (eqb (formatOf k .result) 0))
+  where
+    go : (o c i z : Bool)
+        → (cond o (cond i refused (with g (g .left - 1) true)) (cond c (cond i (with g (cond (ltb (g .left) 2) 0 1) false) refused) (cond z (with g (g .left - 1) i) (pushed (with g (g .left - 1) i) (formatOf k .result))))) .inside
+        ≡ insideBy i o c
+    go true c true z = refl
+    go true c false z = refl
+    go false true true z = refl
+    go false true false z = refl
+    go false false i true = refl
+    go false false i false = refl
 
-  after-phase : mayStand n q before e ≡ true → eqb (after g (kindOf e) .phase) 4 ≡ false
+-- an entry that is not refused changes how many are left and whether the block is open, and may add a value
+module _ (g : Shape) where
+  abbrev grownBy : ℕ → Bool → ℕ → Shape
+  grownBy left inside kind = cond (eqb kind 0) (with g left inside) (pushed (with g left inside) kind)
+
+  opened-form : (i : Bool) → ((cond i refused (with g (g .left - 1) true)) .left ≡ 0 → ⊥)
+      → cond i refused (with g (g .left - 1) true) ≡ with g ((cond i refused (with g (g .left - 1) true)) .left) ((cond i refused (with g (g .left - 1) true)) .inside)
+  opened-form true h = absurd (h refl)
+  opened-form false h = refl
+
+  closed-form : (i : Bool) → ((cond i (with g (cond (ltb (g .left) 2) 0 1) false) refused) .left ≡ 0 → ⊥)
+      → cond i (with g (cond (ltb (g .left) 2) 0 1) false) refused ≡ with g ((cond i (with g (cond (ltb (g .left) 2) 0 1) false) refused) .left) ((cond i (with g (cond (ltb (g .left) 2) 0 1) false) refused) .inside)
+  closed-form true h = refl
+  closed-form false h = absurd (h refl)
+
+  placed-form : (z : Bool) (kind : ℕ)
+      → cond z (counted g) (pushed (counted g) kind)
+      ≡ cond z (with g ((cond z (counted g) (pushed (counted g) kind)) .left) ((cond z (counted g) (pushed (counted g) kind)) .inside)) (pushed (with g ((cond z (counted g) (pushed (counted g) kind)) .left) ((cond z (counted g) (pushed (counted g) kind)) .inside)) kind)
   unfolding pushed
-  after-phase ok = go (eqb (phaseAfter q (kindOf e)) 3) refl
-    where
-      counted : (z : Bool) → (cond z (moved g (phaseAfter q (kindOf e))) (pushed (moved g (phaseAfter q (kindOf e))) (formatOf (kindOf e) .result))) .phase ≡ phaseAfter q (kindOf e)
-      counted true = refl
-      counted false = refl
+  placed-form true kind = refl
+  placed-form false kind = refl
 
-      go : (b : Bool) → eqb (phaseAfter q (kindOf e)) 3 ≡ b → eqb (after g (kindOf e) .phase) 4 ≡ false
-      go true p = ap (λ (s : Shape). eqb (s .phase) 4) (after-is true p)
-      go false p = ap (λ (s : Shape). eqb (s .phase) 4) (after-is false p) ∙ ap (λ (m : ℕ). eqb m 4) (counted (eqb (formatOf (kindOf e) .result) 0)) ∙ can-stand ok .1
-
-  keeps-next : isEnd e ≡ false → mayStand n q before e ≡ true → Keeps (after g (kindOf e)) (suc n) (phaseAfter q (kindOf e)) (before ++ makes e)
-  unfolding makes bitAt maskOf
-  keeps-next x ok =
-      let a = can-stand ok in
-      let two = phase-le q (w .phases) (kindOf e) x (a .1) in
-      rw (after-is false (ne-eqb (phaseAfter q (kindOf e)) 3 (λ z. omega arith))) (go (formatOf (kindOf e) .result) (result-le (kindOf e)) two (a .0))
+  after-form : (k : ℕ) → eqb k 255 ≡ false → (after g k .left ≡ 0 → ⊥) → after g k ≡ grownBy (after g k .left) (after g k .inside) (formatOf k .result)
+  unfolding after opened closed placed formatOf
+  after-form k x h = go (eqb k 100) refl (eqb k 101) refl
     where
-      go : (kind : ℕ) → kind ≤ 4 → phaseAfter q (kindOf e) ≤ 2 → n < 64 → Keeps (cond (eqb kind 0) (moved g (phaseAfter q (kindOf e))) (pushed (moved g (phaseAfter q (kindOf e))) kind)) (suc n) (phaseAfter q (kindOf e)) (before ++ cond (eqb kind 0) [] (kind ∷ []))
-      go zero h two s =
-          rw append-nil
-          (record { entries = ap (λ (m : ℕ). m + 1) (w .entries) ∙ add-one n; phase = refl; phases = two; values = w .values; few = omega (arith, w .few); kinds = w .kinds })
-      go (suc kind) h two s =
-          let small : length before < 64 = omega (arith, w .few) in
-          rw (ne-eqb (suc kind) 0 (λ z. omega arith))
-          (keeps-pushed (moved g (phaseAfter q (kindOf e))) before (w .values) small (w .kinds) (suc kind) (omega arith) h (suc n) (phaseAfter q (kindOf e))
-          (ap (λ (m : ℕ). m + 1) (w .entries) ∙ add-one n) refl two (omega (arith, w .few)))
+      go : (o : Bool) → eqb k 100 ≡ o → (c : Bool) → eqb k 101 ≡ c → after g k ≡ grownBy (after g k .left) (after g k .inside) (formatOf k .result)
+      go true o c d = let is = eqb-true k 100 o in rw is (opened-form (g .inside) (rw is at h))
+      go false o true c = let is = eqb-true k 101 c in rw is (closed-form (g .inside) (rw is at h))
+      go false o false c = rw (o, c, x) (placed-form (eqb (formatOf k .result) 0) (formatOf k .result))
+
+one-less : (n : ℕ) → n < 64 → 64 - n - 1 ≡ cond (eqb (suc n) 64) 0 (64 - suc n)
+one-less n h = go (eqb (suc n) 64) refl
+  where
+    go : (b : Bool) → eqb (suc n) 64 ≡ b → 64 - n - 1 ≡ cond b 0 (64 - suc n)
+    go true p = let e = eqb-true (suc n) 64 p in omega arith
+    go false p = omega arith
+
+end-left : (n : ℕ) → n < 64 → _≡_ {A = ℕ} (cond (ltb (64 - n) 2) 0 1) (cond (eqb (suc n) 64) 0 1)
+end-left n h = go (eqb (suc n) 64) refl
+  where
+    go : (b : Bool) → eqb (suc n) 64 ≡ b → _≡_ {A = ℕ} (cond (ltb (64 - n) 2) 0 1) (cond b 0 1)
+    go true p = let e = eqb-true (suc n) 64 p in rw (lt-ltb (64 - n) 2 (omega arith))
+    go false p = let e = eqb-false (suc n) 64 p in let m : 2 ≤ 64 - n = omega arith in rw (le-ltb (64 - n) 2 m)
+
+left-turn : (n : ℕ) → n < 64 → (q : ℕ) → q ≤ 2 → (o c : Bool)
+    → leftBy (eqb q 1) (cond (eqb q 2) 1 (64 - n)) o c
+    ≡ cond (eqb (cond o (cond (eqb q 0) 1 4) (cond c (cond (eqb q 1) 2 4) (cond (ltb q 2) q 4))) 4) 0
+    (cond (eqb (suc n) 64) 0 (cond (eqb (cond o (cond (eqb q 0) 1 4) (cond c (cond (eqb q 1) 2 4) (cond (ltb q 2) q 4))) 2) 1 (64 - suc n)))
+unfolding leftBy
+left-turn n h zero l true c = one-less n h
+left-turn n h zero l false true = refl
+left-turn n h zero l false false = one-less n h
+left-turn n h (suc zero) l true c = refl
+left-turn n h (suc zero) l false true = end-left n h
+left-turn n h (suc zero) l false false = one-less n h
+left-turn n h (suc (suc zero)) l true c = refl
+left-turn n h (suc (suc zero)) l false true = refl
+left-turn n h (suc (suc zero)) l false false = refl
+left-turn n h (suc (suc (suc q))) l o c = absurd (omega arith)
+
+inside-turn : (q : ℕ) → q ≤ 2 → (o c : Bool) → eqb (cond o (cond (eqb q 0) 1 4) (cond c (cond (eqb q 1) 2 4) (cond (ltb q 2) q 4))) 4 ≡ false
+    → insideBy (eqb q 1) o c ≡ eqb (cond o (cond (eqb q 0) 1 4) (cond c (cond (eqb q 1) 2 4) (cond (ltb q 2) q 4))) 1
+unfolding insideBy
+inside-turn zero l true c p = refl
+inside-turn zero l false true p = refl
+inside-turn zero l false false p = refl
+inside-turn (suc zero) l true c p = refl
+inside-turn (suc zero) l false true p = refl
+inside-turn (suc zero) l false false p = refl
+inside-turn (suc (suc zero)) l true c p = absurd (true≢false p)
+inside-turn (suc (suc zero)) l false true p = refl
+inside-turn (suc (suc zero)) l false false p = refl
+inside-turn (suc (suc (suc q))) l o c p = absurd (omega arith)
+
+-- ---- one entry
+module _ (g : Shape) (n q : ℕ) (before : List ℕ) (w : Keeps g n q before) (e : Entry) where
+  -- the test of cells and references
+  fits-is : fits g e ≡ cellOk (formatOf (kindOf e)) e && refsPass (names before) (formatOf (kindOf e) .operands) (refsOf e)
+  unfolding fits
+  fits-is = ap (λ (r : Bool). cellOk (formatOf (kindOf e)) e && r) (refs-agree (has g) (names before) (w .kinds) (formatOf (kindOf e) .operands) (refsOf e))
+
+  stand : (b : Bool) → fits g e ≡ b → mayStand n q before e ≡ not (eqb (phaseAfter q (kindOf e)) 4) && b
+  unfolding mayStand
+  stand b p = rw (lt-ltb n 64 (w .few), ← fits-is, p)
+
+  -- how many may come behind it, by the phase
+  leftAfter : ℕ
+  leftAfter = cond (eqb (phaseAfter q (kindOf e)) 4) 0 (cond (eqb (suc n) 64) 0 (cond (eqb (phaseAfter q (kindOf e)) 2) 1 (64 - suc n)))
+
+  after-left : isEnd e ≡ false → after g (kindOf e) .left ≡ leftAfter
+  unfolding leftAfter phaseAfter
+  after-left x =
+      after-left-by g (kindOf e) x
+      ∙ ap₂ (λ (i : Bool) (l : ℕ). leftBy i l (eqb (kindOf e) 100) (eqb (kindOf e) 101)) (w .inside) (w .left)
+      ∙ rw x (left-turn n (w .few) q (w .phases) (eqb (kindOf e) 100) (eqb (kindOf e) 101))
+
+  after-inside : isEnd e ≡ false → eqb (phaseAfter q (kindOf e)) 4 ≡ false → after g (kindOf e) .inside ≡ eqb (phaseAfter q (kindOf e)) 1
+  unfolding phaseAfter
+  after-inside x p =
+      after-inside-by g (kindOf e) x
+      ∙ ap (λ (i : Bool). insideBy i (eqb (kindOf e) 100) (eqb (kindOf e) 101)) (w .inside)
+      ∙ (rw x (inside-turn q (w .phases) (eqb (kindOf e) 100) (eqb (kindOf e) 101) (rw x at p)))
+
+  -- behind an entry that may stand, with room for another
+  module _ (x : isEnd e ≡ false) (p : eqb (phaseAfter q (kindOf e)) 4 ≡ false) (f : eqb (suc n) 64 ≡ false) where
+    few-more : suc n < 64
+    few-more = let ne = eqb-false (suc n) 64 f in omega (arith, w .few)
+
+    left-more : after g (kindOf e) .left ≡ cond (eqb (phaseAfter q (kindOf e)) 2) 1 (64 - suc n)
+    unfolding leftAfter
+    left-more = after-left x ∙ rw (p, f)
+
+    left-some : (b : Bool) → eqb (phaseAfter q (kindOf e)) 2 ≡ b → (1 ≤ cond b 1 (64 - suc n)) × (cond b 1 (64 - suc n) < 64)
+    left-some true h = (omega arith, omega arith)
+    left-some false h = (omega (arith, few-more), omega (arith, few-more))
+
+    left-range : (1 ≤ after g (kindOf e) .left) × (after g (kindOf e) .left < 64)
+    left-range = rw left-more (left-some (eqb (phaseAfter q (kindOf e)) 2) refl)
+
+    keeps-next : Keeps (after g (kindOf e)) (suc n) (phaseAfter q (kindOf e)) (before ++ makes e)
+    unfolding makes bitAt maskOf
+    keeps-next =
+        let r = left-range in
+        rw (after-form g (kindOf e) x (λ z. omega arith)) (go (formatOf (kindOf e) .result) (result-le (kindOf e)))
+      where
+        two : phaseAfter q (kindOf e) ≤ 2
+        two = phase-le q (w .phases) (kindOf e) x p
+
+        start : eqb (after g (kindOf e) .left) 64 ≡ eqb (suc n) 0
+        start = ne-eqb (after g (kindOf e) .left) 64 (λ z. omega (arith, left-range .1)) ∙ sym (ne-eqb (suc n) 0 (λ z. omega arith))
+
+        go : (kind : ℕ) → kind ≤ 4 → Keeps (grownBy g (after g (kindOf e) .left) (after g (kindOf e) .inside) kind) (suc n) (phaseAfter q (kindOf e)) (before ++ cond (eqb kind 0) [] (kind ∷ []))
+        go zero h =
+            rw append-nil
+            (record { few = few-more; left = left-more; begun = start; inside = after-inside x p; phases = two; values = w .values; small = omega (arith, w .small); kinds = w .kinds })
+        go (suc kind) h =
+            let small : length before < 64 = omega (arith, w .small, w .few) in
+            rw (ne-eqb (suc kind) 0 (λ z. omega arith))
+            (keeps-pushed (with g (after g (kindOf e) .left) (after g (kindOf e) .inside)) before (w .values) small (w .kinds) (suc kind) (omega arith) h (suc n) (phaseAfter q (kindOf e))
+            few-more left-more start (after-inside x p) two (omega (arith, w .small)))
+
+  -- the end
+  after-end : isEnd e ≡ true → after g (kindOf e) ≡ cond (eqb q 1) refused fresh
+  unfolding after P.ended
+  after-end x = rw (eqb-true (kindOf e) 255 x, w .inside)
+
+  end-stands : isEnd e ≡ true → fits g e ≡ true → mayStand n q before e ≡ not (eqb q 1)
+  unfolding phaseAfter
+  end-stands x p = stand true p ∙ rw (eqb-true (kindOf e) 255 x) (go (eqb q 1))
+    where
+      go : (b : Bool) → not (eqb (cond b 4 3) 4) && true ≡ not b
+      go true = refl
+      go false = refl
 
 -- ---- the pass over the entries that are left
 okFrom : ℕ → ℕ → List ℕ → Option (List (List Entry)) → Bool
@@ -411,39 +557,71 @@ module _ (n q : ℕ) (two : q ≤ 2) (before : List ℕ) (e : Entry) where
   ok-turn x (some []) = rw (x, ne-eqb (suc n) 0 (λ z. omega arith)) (and-false (mayStand n q before e))
   ok-turn x (some (s ∷ ss)) = rw x (sym (and-assoc (mayStand n q before e) _ (all stripOk ss)) ∙ ap (λ (b : Bool). b && all stripOk ss) (sym (strip-turn n q two before e x s)))
 
+-- behind 64 entries there is no end
+ok-full : (q : ℕ) (before : List ℕ) (o : Option (List (List Entry))) → okFrom 64 q before o ≡ false
+unfolding okFrom stripFrom ended
+ok-full q before none = refl
+ok-full q before (some []) = refl
+ok-full q before (some ([] ∷ ss)) = refl
+ok-full q before (some ((e ∷ es) ∷ ss)) = rw (lt-leb (64 + suc (length es)) 64 (omega arith)) (ap (λ (b : Bool). b && all stripOk ss) (and-false (ended (e ∷ es))))
+
 module _ (rs : List Read) (ih : (g : Shape) (n q : ℕ) (before : List ℕ) → Keeps g n q before → passFrom g rs ≡ okFrom n q before (stripsOf rs))
     (g : Shape) (n q : ℕ) (before : List ℕ) (w : Keeps g n q before) (e : Entry) where
-  -- what may stand is taken, and nothing else
-  taken : cond (ltb (g .entries) 64) (cond (eqb (stepOf g e .phase) 4) false (passFrom (stepOf g e) rs)) false ≡ cond (mayStand n q before e) (passFrom (after g (kindOf e)) rs) false
-  taken = ap (λ (z : ℕ). cond (ltb z 64) (cond (eqb (stepOf g e .phase) 4) false (passFrom (stepOf g e) rs)) false) (w .entries) ∙ go (ltb n 64) refl (mayStand n q before e) refl
-    where
-      go : (s : Bool) → ltb n 64 ≡ s → (b : Bool) → mayStand n q before e ≡ b → cond s (cond (eqb (stepOf g e .phase) 4) false (passFrom (stepOf g e) rs)) false ≡ cond b (passFrom (after g (kindOf e)) rs) false
-      go false s true p = absurd (false≢true (sym s ∙ lt-ltb n 64 (can-stand g n q before w e p .0)))
-      go false s false p = refl
-      go true s true p =
-          ap (λ (z : Shape). cond (eqb (z .phase) 4) false (passFrom z rs)) (step-is g n q before w e (ltb-true n 64 s) true p)
-          ∙ ap (λ (b : Bool). cond b false (passFrom (after g (kindOf e)) rs)) (after-phase g n q before w e p)
-      go true s false p = ap (λ (z : Shape). cond (eqb (z .phase) 4) false (passFrom z rs)) (step-is g n q before w e (ltb-true n 64 s) false p)
+  -- the pass behind a state of the shape
+  onward : Shape → Bool
+  onward s = cond (eqb (s .left) 0) false (passFrom s rs)
 
-  pass-turn : cond (mayStand n q before e) (passFrom (after g (kindOf e)) rs) false ≡ okFrom n q before (joined e (stripsOf rs))
-  pass-turn = go (isEnd e) refl (mayStand n q before e) refl
+  not-standing : mayStand n q before e ≡ false → false ≡ okFrom n q before (joined e (stripsOf rs))
+  not-standing p = go (isEnd e) refl
     where
-      go : (x : Bool) → isEnd e ≡ x → (b : Bool) → mayStand n q before e ≡ b → cond b (passFrom (after g (kindOf e)) rs) false ≡ okFrom n q before (joined e (stripsOf rs))
-      go true x true p =
-          let three = phase-end q (w .phases) (kindOf e) x (can-stand g n q before w e p .1) in
-          ap (λ (z : Shape). passFrom z rs) (after-is g n q before w e true (eq-eqb _ _ three))
-          ∙ ih fresh 0 0 [] keeps-fresh
-          ∙ ok-fresh (stripsOf rs)
-          ∙ (rw p at (ok-end n q (w .phases) before e x (stripsOf rs)))
-      go true x false p = rw p at (ok-end n q (w .phases) before e x (stripsOf rs))
-      go false x true p = ih _ _ _ _ (keeps-next g n q before w e x p) ∙ (rw p at (ok-turn n q (w .phases) before e x (stripsOf rs)))
-      go false x false p = rw p at (ok-turn n q (w .phases) before e x (stripsOf rs))
+      go : (x : Bool) → isEnd e ≡ x → false ≡ okFrom n q before (joined e (stripsOf rs))
+      go true x = rw p at (ok-end n q (w .phases) before e x (stripsOf rs))
+      go false x = rw p at (ok-turn n q (w .phases) before e x (stripsOf rs))
+
+  turn-end : isEnd e ≡ true → fits g e ≡ true → onward (after g (kindOf e)) ≡ okFrom n q before (joined e (stripsOf rs))
+  unfolding onward
+  turn-end x p = ap (λ (s : Shape). onward s) (after-end g n q before w e x) ∙ go (eqb q 1) refl
+    where
+      go : (b : Bool) → eqb q 1 ≡ b → onward (cond b refused fresh) ≡ okFrom n q before (joined e (stripsOf rs))
+      go true b = not-standing (end-stands g n q before w e x p ∙ ap not b)
+      go false b = ih fresh 0 0 [] keeps-fresh ∙ ok-fresh (stripsOf rs) ∙ (rw (end-stands g n q before w e x p ∙ ap not b) at (ok-end n q (w .phases) before e x (stripsOf rs)))
+
+  turn-on : isEnd e ≡ false → fits g e ≡ true → onward (after g (kindOf e)) ≡ okFrom n q before (joined e (stripsOf rs))
+  unfolding onward leftAfter
+  turn-on x p = go (eqb (phaseAfter q (kindOf e)) 4) refl (eqb (suc n) 64) refl
+    where
+      stands : (b : Bool) → eqb (phaseAfter q (kindOf e)) 4 ≡ b → mayStand n q before e ≡ not b
+      stands b h = stand g n q before w e true p ∙ ap (λ (c : Bool). not c && true) h ∙ and-true (not b)
+
+      none-left : after g (kindOf e) .left ≡ 0 → onward (after g (kindOf e)) ≡ false
+      none-left h = rw h
+
+      go : (b : Bool) → eqb (phaseAfter q (kindOf e)) 4 ≡ b → (f : Bool) → eqb (suc n) 64 ≡ f → onward (after g (kindOf e)) ≡ okFrom n q before (joined e (stripsOf rs))
+      go true h f k = none-left (after-left g n q before w e x ∙ rw h) ∙ not-standing (stands true h)
+      go false h true k =
+          none-left (after-left g n q before w e x ∙ rw (h, k))
+          ∙ sym (ok-full (phaseAfter q (kindOf e)) (before ++ makes e) (stripsOf rs))
+          ∙ (rw (stands false h, eqb-true (suc n) 64 k) at (ok-turn n q (w .phases) before e x (stripsOf rs)))
+      go false h false k =
+          let r = left-range g n q before w e x h k in
+          ap (λ (b : Bool). cond b false (passFrom (after g (kindOf e)) rs)) (ne-eqb (after g (kindOf e) .left) 0 (λ z. omega arith))
+          ∙ ih _ _ _ _ (keeps-next g n q before w e x h k)
+          ∙ (rw (stands false h) at (ok-turn n q (w .phases) before e x (stripsOf rs)))
+
+  pass-turn : onward (stepOf g e) ≡ okFrom n q before (joined e (stripsOf rs))
+  unfolding stepOf onward
+  pass-turn = go (fits g e) refl (isEnd e) refl
+    where
+      go : (b : Bool) → fits g e ≡ b → (x : Bool) → isEnd e ≡ x → onward (cond b (after g (kindOf e)) refused) ≡ okFrom n q before (joined e (stripsOf rs))
+      go false p x h = not-standing (stand g n q before w e false p ∙ and-false (not (eqb (phaseAfter q (kindOf e)) 4)))
+      go true p true x = turn-end x p
+      go true p false x = turn-on x p
 
 pass-from : (rs : List Read) (g : Shape) (n q : ℕ) (before : List ℕ) → Keeps g n q before → passFrom g rs ≡ okFrom n q before (stripsOf rs)
-unfolding passFrom stripsOf okFrom
-pass-from [] g n q before w = ap (λ (m : ℕ). eqb m 0) (w .entries)
+unfolding passFrom stripsOf okFrom onward
+pass-from [] g n q before w = w .begun
 pass-from (Stop ∷ rs) g n q before w = refl
-pass-from (Found e m ∷ rs) g n q before w = taken rs (pass-from rs) g n q before w e ∙ pass-turn rs (pass-from rs) g n q before w e
+pass-from (Found e m ∷ rs) g n q before w = pass-turn rs (pass-from rs) g n q before w e
 
 -- T2: the single pass decides the shape
 pub pass-shape : (s : List ℕ) → passFrom fresh (readsOf 0 s) ≡ shapeOk s
@@ -456,37 +634,36 @@ module _ (g : Shape) (t : List Read) where
   unfolding passFrom
   pass-stop p = rw p
 
-  pub pass-full : 64 ≤ g .entries → false ≡ passFrom g t
-  unfolding passFrom
-  pass-full h = go t
-    where
-      go : (t : List Read) → false ≡ passFrom g t
-      go [] = sym (ne-eqb (g .entries) 0 (λ z. omega arith))
-      go (Stop ∷ u) = refl
-      go (Found e n ∷ u) = rw (le-ltb (g .entries) 64 h)
-
-  module _ (e : Entry) (n : ℕ) (u : List Read) (p : t ≡ Found e n ∷ u) (room : g .entries < 64) where
-    pub pass-refused : stepOf g e .phase ≡ 4 → false ≡ passFrom g t
+  module _ (e : Entry) (n : ℕ) (u : List Read) (p : t ≡ Found e n ∷ u) where
+    pub pass-refused : stepOf g e .left ≡ 0 → false ≡ passFrom g t
     unfolding passFrom
-    pass-refused q = rw (p, passFrom, lt-ltb (g .entries) 64 room, eq-eqb _ _ q)
+    pass-refused q = rw (p, passFrom, eq-eqb _ _ q)
 
-    pub pass-taken : (stepOf g e .phase ≡ 4 → ⊥) → passFrom (stepOf g e) u ≡ passFrom g t
+    pub pass-taken : (stepOf g e .left ≡ 0 → ⊥) → passFrom (stepOf g e) u ≡ passFrom g t
     unfolding passFrom
-    pass-taken q = rw (p, passFrom, lt-ltb (g .entries) 64 room, ne-eqb _ _ q)
+    pass-taken q = rw (p, passFrom, ne-eqb _ _ q)
 
--- a step keeps at most one value for each entry
-pub step-few : (g : Shape) (e : Entry) → g .values ≤ g .entries → stepOf g e .values ≤ stepOf g e .entries
-unfolding stepOf after pushed
-step-few g e h = go (not (eqb (phaseAfter (g .phase) (kindOf e)) 4) && fits g e) (eqb (phaseAfter (g .phase) (kindOf e)) 3) (eqb (formatOf (kindOf e) .result) 0)
+-- a step that refuses nothing leaves room
+pub step-room : (g : Shape) (e : Entry) → Room g → (stepOf g e .left ≡ 0 → ⊥) → Room (stepOf g e)
+unfolding stepOf after opened closed P.ended placed pushed
+step-room g e r h = record { left = omega arith; values = go (fits g e) (eqb (kindOf e) 100) (eqb (kindOf e) 101) (eqb (kindOf e) 255) (g .inside) (ltb (g .left) 2) refl (eqb (formatOf (kindOf e) .result) 0) }
   where
-    p : ℕ
-    p = phaseAfter (g .phase) (kindOf e)
+    next : Bool → Bool → Bool → Bool → Bool → Bool → Bool → Shape
+    next f o c x i l z =
+        cond f
+        (cond o (cond i refused (with g (g .left - 1) true))
+        (cond c (cond i (with g (cond l 0 1) false) refused)
+        (cond x (cond i refused fresh) (cond z (counted g) (pushed (counted g) (formatOf (kindOf e) .result))))))
+        refused
 
-    next : Bool → Bool → Bool → Shape
-    next a b c = cond a (cond b fresh (cond c (moved g p) (pushed (moved g p) (formatOf (kindOf e) .result)))) (refused g)
-
-    go : (a b c : Bool) → next a b c .values ≤ next a b c .entries
-    go true true c = omega arith
-    go true false true = omega arith
-    go true false false = omega arith
-    go false b c = h
+    go : (f o c x i l : Bool) → ltb (g .left) 2 ≡ l → (z : Bool) → next f o c x i l z .values + next f o c x i l z .left ≤ 64
+    go false o c x i l p z = omega arith
+    go true true c x true l p z = omega arith
+    go true true c x false l p z = omega (arith, r .values)
+    go true false true x true true p z = omega (arith, r .values)
+    go true false true x true false p z = omega (arith, r .values, ltb-false (g .left) 2 p)
+    go true false true x false l p z = omega arith
+    go true false false true true l p z = omega arith
+    go true false false true false l p z = omega arith
+    go true false false false i l p true = omega (arith, r .values)
+    go true false false false i l p false = omega (arith, r .values, r .left)

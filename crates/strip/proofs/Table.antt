@@ -59,6 +59,17 @@ leastBy Body.Two k = 0
 leastBy Body.Three k = 0
 leastBy Body.Four k = 0
 
+abbrev pub limitBy : Body → ℕ → ℕ
+limitBy Body.Unknown k = 0
+limitBy Body.Bare k = 0
+limitBy Body.Word k = 0
+limitBy Body.Cell k = cond (eqb k 4) 255 (cond (eqb k 10) 32 (cond (eqb k 110) 6 (cond (eqb k 5) 7 4)))
+limitBy Body.Store k = cond (eqb k 7) 255 (cond (eqb k 8) 7 4)
+limitBy Body.One k = 0
+limitBy Body.Two k = 0
+limitBy Body.Three k = 0
+limitBy Body.Four k = 0
+
 abbrev pub operandsBy : Body → ℕ → List ℕ
 operandsBy Body.Unknown k = []
 operandsBy Body.Bare k = []
@@ -76,7 +87,7 @@ resultBy Body.Bare k = cond (eqb k 255) 0 (cond (eqb k 101) 0 2)
 resultBy Body.Word k = 1
 resultBy Body.Cell k = cond (eqb k 4) 1 (cond (eqb k 10) 3 (cond (eqb k 110) 0 2))
 resultBy Body.Store k = 0
-resultBy Body.One k = cond (ltb k 80) 1 (cond (eqb k 100) 0 2)
+resultBy Body.One k = cond (ltb k 80) 1 (cond (ltb k 100) 2 0)
 resultBy Body.Two k = cond (ltb k 60) 1 2
 resultBy Body.Three k = 1
 resultBy Body.Four k = cond (eqb k 11) 4 1
@@ -106,50 +117,77 @@ same-is [] (y ∷ ys) t = absurd t
 same-is (x ∷ xs) [] t = absurd t
 same-is (x ∷ xs) (y ∷ ys) t = ap₂ (λ (z : ℕ) (zs : List ℕ). z ∷ zs) (eqb→eq x y (T-left (eqb x y) (same xs ys) t)) (same-is xs ys (T-right (eqb x y) (same xs ys) t))
 
-right : ℕ → Bool
-right k =
-    eqb (formatOf k .least) (leastBy (formatOf k .body) k)
-    && (same (formatOf k .operands) (operandsBy (formatOf k .body) k)
-    && (eqb (formatOf k .result) (resultBy (formatOf k .body) k)
-    && ((not (eqb k 100) || blockBy (formatOf k .body) .0) && ((not (eqb k 101) || blockBy (formatOf k .body) .1) && (not (eqb k 255) || blockBy (formatOf k .body) .2)))))
+-- Each column, by one test over the bytes.
+least-computed : T (every (λ k. eqb (formatOf k .least) (leastBy (formatOf k .body) k)) 0 256)
+unfolding formatOf
+least-computed = tt
 
-computed : T (every right 0 256)
-unfolding right same formatOf
-computed = tt
+pub least-by : (k : ℕ) → k < 256 → formatOf k .least ≡ leastBy (formatOf k .body) k
+least-by k h = eqb→eq _ _ (below (λ k. eqb (formatOf k .least) (leastBy (formatOf k .body) k)) 256 least-computed k h)
 
--- what the table says of a byte that is a kind
-module _ (k : ℕ) (h : k < 256) where
-  says : T (right k)
-  says = below right 256 computed k h
+limit-computed : T (every (λ k. eqb (formatOf k .limit) (limitBy (formatOf k .body) k)) 0 256)
+unfolding formatOf
+limit-computed = tt
 
-  pub least-by : formatOf k .least ≡ leastBy (formatOf k .body) k
-  unfolding right
-  least-by = eqb→eq _ _ (T-left (eqb (formatOf k .least) (leastBy (formatOf k .body) k)) _ says)
+pub limit-by : (k : ℕ) → k < 256 → formatOf k .limit ≡ limitBy (formatOf k .body) k
+limit-by k h = eqb→eq _ _ (below (λ k. eqb (formatOf k .limit) (limitBy (formatOf k .body) k)) 256 limit-computed k h)
 
-  pub operands-by : formatOf k .operands ≡ operandsBy (formatOf k .body) k
-  unfolding right
-  operands-by = same-is _ _ (T-left (same (formatOf k .operands) (operandsBy (formatOf k .body) k)) _ (T-right (eqb (formatOf k .least) (leastBy (formatOf k .body) k)) _ says))
+operands-computed : T (every (λ k. same (formatOf k .operands) (operandsBy (formatOf k .body) k)) 0 256)
+unfolding formatOf same
+operands-computed = tt
 
-  rest : T (eqb (formatOf k .result) (resultBy (formatOf k .body) k) && ((not (eqb k 100) || blockBy (formatOf k .body) .0) && ((not (eqb k 101) || blockBy (formatOf k .body) .1) && (not (eqb k 255) || blockBy (formatOf k .body) .2))))
-  unfolding right
-  rest = T-right (same (formatOf k .operands) (operandsBy (formatOf k .body) k)) _ (T-right (eqb (formatOf k .least) (leastBy (formatOf k .body) k)) _ says)
+pub operands-by : (k : ℕ) → k < 256 → formatOf k .operands ≡ operandsBy (formatOf k .body) k
+operands-by k h = same-is _ _ (below (λ k. same (formatOf k .operands) (operandsBy (formatOf k .body) k)) 256 operands-computed k h)
 
-  pub result-by : formatOf k .result ≡ resultBy (formatOf k .body) k
-  result-by = eqb→eq _ _ (T-left (eqb (formatOf k .result) (resultBy (formatOf k .body) k)) _ rest)
+result-computed : T (every (λ k. eqb (formatOf k .result) (resultBy (formatOf k .body) k)) 0 256)
+unfolding formatOf
+result-computed = tt
 
-  excluded : (x b : Bool) → T (not x || b) → b ≡ false → x ≡ false
-  excluded false b t p = refl
-  excluded true b t p = absurd (rw p at t)
+pub result-by : (k : ℕ) → k < 256 → formatOf k .result ≡ resultBy (formatOf k .body) k
+result-by k h = eqb→eq _ _ (below (λ k. eqb (formatOf k .result) (resultBy (formatOf k .body) k)) 256 result-computed k h)
 
-  -- a body that open, close or end does not have
-  pub no-open : blockBy (formatOf k .body) .0 ≡ false → eqb k 100 ≡ false
-  no-open = excluded (eqb k 100) (blockBy (formatOf k .body) .0) (T-left (not (eqb k 100) || blockBy (formatOf k .body) .0) _ (T-right (eqb (formatOf k .result) (resultBy (formatOf k .body) k)) _ rest))
+-- open, close and end have their bodies
+excluded : (x b : Bool) → T (not x || b) → b ≡ false → x ≡ false
+excluded false b t p = refl
+excluded true b t p = absurd (rw p at t)
 
-  ends : T ((not (eqb k 101) || blockBy (formatOf k .body) .1) && (not (eqb k 255) || blockBy (formatOf k .body) .2))
-  ends = T-right (not (eqb k 100) || blockBy (formatOf k .body) .0) _ (T-right (eqb (formatOf k .result) (resultBy (formatOf k .body) k)) _ rest)
+open-computed : T (every (λ k. not (eqb k 100) || blockBy (formatOf k .body) .0) 0 256)
+unfolding formatOf
+open-computed = tt
 
-  pub no-close : blockBy (formatOf k .body) .1 ≡ false → eqb k 101 ≡ false
-  no-close = excluded (eqb k 101) (blockBy (formatOf k .body) .1) (T-left (not (eqb k 101) || blockBy (formatOf k .body) .1) _ ends)
+pub no-open : (k : ℕ) → k < 256 → blockBy (formatOf k .body) .0 ≡ false → eqb k 100 ≡ false
+no-open k h = excluded (eqb k 100) _ (below (λ k. not (eqb k 100) || blockBy (formatOf k .body) .0) 256 open-computed k h)
 
-  pub no-end : blockBy (formatOf k .body) .2 ≡ false → eqb k 255 ≡ false
-  no-end = excluded (eqb k 255) (blockBy (formatOf k .body) .2) (T-right (not (eqb k 101) || blockBy (formatOf k .body) .1) _ ends)
+close-computed : T (every (λ k. not (eqb k 101) || blockBy (formatOf k .body) .1) 0 256)
+unfolding formatOf
+close-computed = tt
+
+pub no-close : (k : ℕ) → k < 256 → blockBy (formatOf k .body) .1 ≡ false → eqb k 101 ≡ false
+no-close k h = excluded (eqb k 101) _ (below (λ k. not (eqb k 101) || blockBy (formatOf k .body) .1) 256 close-computed k h)
+
+end-computed : T (every (λ k. not (eqb k 255) || blockBy (formatOf k .body) .2) 0 256)
+unfolding formatOf
+end-computed = tt
+
+pub no-end : (k : ℕ) → k < 256 → blockBy (formatOf k .body) .2 ≡ false → eqb k 255 ≡ false
+no-end k h = excluded (eqb k 255) _ (below (λ k. not (eqb k 255) || blockBy (formatOf k .body) .2) 256 end-computed k h)
+
+-- of the kinds with one reference, open is the last
+isOne : Body → Bool
+isOne Body.Unknown = false
+isOne Body.Bare = false
+isOne Body.Word = false
+isOne Body.Cell = false
+isOne Body.Store = false
+isOne Body.One = true
+isOne Body.Two = false
+isOne Body.Three = false
+isOne Body.Four = false
+
+last-computed : T (every (λ k. not (isOne (formatOf k .body)) || (ltb k 100 || eqb k 100)) 0 256)
+unfolding formatOf isOne
+last-computed = tt
+
+pub one-last : (k : ℕ) → k < 256 → formatOf k .body ≡ Body.One → ltb k 100 ≡ false → k ≡ 100
+unfolding isOne
+one-last k h b p = eqb→eq k 100 (rw (b, p) at (below (λ k. not (isOne (formatOf k .body)) || (ltb k 100 || eqb k 100)) 256 last-computed k h))

@@ -1,23 +1,21 @@
 // The shape test: one pass over the run, with a state of fixed size.
 ghost use mathlib.Core.Path.{_≡_};
-ghost use Prim.Native.Nat.{_+_, _≤_, _<_};
 ghost use mathlib.Core.Bool.{cond, _&&_};
-ghost use lib.ListN.{length};
-ghost use lib.Dec.{leb, eqb};
+ghost use lib.Dec.{leb, ltb, eqb};
 ghost use Rattle.strip.specs.Format.{formatOf};
 ghost use Rattle.strip.specs.Entry.{kindOf, bodyOf};
 ghost use Rattle.strip.specs.Shape.{shapeOk};
-ghost use Rattle.strip.specs.Pass.{Room, fresh, refused, bitAt, placed, opened, stepOf};
+ghost use Rattle.strip.specs.Pass.{Room, fresh, refused, bitAt, placed, opened, closed, ended, stepOf};
 use crate::format::Body;
 use crate::reader::Entry;
 use crate::reader::Read;
 use crate::reader::read_entry;
 
-// What the entries of a strip so far say of the next one. phase: 0 no open yet, 1 in the block, 2 behind the close, 4 an entry
-// was refused. words, truths, slots, addresses: bit r is set where value r is of that kind.
+// What the entries of a strip so far say of the next one. left: how many may still come: 64 at first, 1 behind the close,
+// 0 where an entry was refused. inside: the block is open. words, truths, slots, addresses: bit r is set where value r is of that kind.
 struct Shape {
-    entries: usize,
-    phase: u8,
+    left: usize,
+    inside: bool,
     values: usize,
     words: u64,
     truths: u64,
@@ -25,9 +23,44 @@ struct Shape {
     addresses: u64,
 }
 
+// Value r is among those of the mask.
+fn has(mask: u64, r: u16) -> bool
+    ensures { λ g. ⌜ g ≡ bitAt mask r ⌝ }
+{
+    if r < 64 { (mask >> r) % 2 == 1 } else { false }
+}
+
+fn has_two(mask: u64, a: u16, b: u16) -> bool
+    ensures { λ g. ⌜ g ≡ bitAt mask a && bitAt mask b ⌝ }
+{
+    if has(mask, a) { has(mask, b) } else { false }
+}
+
+fn has_three(x: u64, a: u16, y: u64, b: u16, c: u16) -> bool
+    ensures { λ g. ⌜ g ≡ bitAt x a && (bitAt y b && bitAt y c) ⌝ }
+{
+    if has(x, a) { has_two(y, b, c) } else { false }
+}
+
+fn has_four(x: u64, a: u16, y: u64, b: u16, c: u16, d: u16) -> bool
+    ensures { λ g. ⌜ g ≡ bitAt x a && (bitAt y b && (bitAt y c && bitAt y d)) ⌝ }
+{
+    if has(x, a) {
+        has_three(y, b, y, c, d)
+    } else {
+        false
+    }
+}
+
+fn pick(test: bool, yes: u64, no: u64) -> u64
+    ensures { λ g. ⌜ g ≡ cond test yes no ⌝ }
+{
+    if test { yes } else { no }
+}
+
 // The number that a cell of kind k stays below.
 fn limit_of(k: u8) -> u8
-    ensures { λ r. ⌜ r ≡ formatOf k .limit ⌝ }
+    ensures { λ g. ⌜ g ≡ formatOf k .limit ⌝ }
 {
     match k {
         4 => 255,
@@ -42,52 +75,27 @@ fn limit_of(k: u8) -> u8
     }
 }
 
-fn pick(test: bool, yes: u64, no: u64) -> u64
-    ensures { λ r. ⌜ r ≡ cond test yes no ⌝ }
+// Predicates and flags.
+fn truth_limit(k: u8) -> u8
+    ensures { λ r. ⌜ r ≡ cond (eqb k 5) 7 4 ⌝ }
 {
-    if test { yes } else { no }
+    if k == 5 { 7 } else { 4 }
 }
 
-// Value r is among those of the mask.
-fn has(mask: u64, r: u16) -> bool
-    ensures { λ b. ⌜ b ≡ bitAt mask r ⌝ }
+// What may come behind the close, of so many with it: the end, or nothing.
+fn one_or_none(left: usize) -> usize
+    ensures { λ r. ⌜ r ≡ cond (ltb left 2) 0 1 ⌝ }
 {
-    if r < 64 { (mask >> r) % 2 == 1 } else { false }
-}
-
-fn has_two(x: u64, a: u16, y: u64, b: u16) -> bool
-    ensures { λ t. ⌜ t ≡ bitAt x a && bitAt y b ⌝ }
-{
-    if has(x, a) { has(y, b) } else { false }
-}
-
-fn has_three(x: u64, a: u16, y: u64, b: u16, c: u16) -> bool
-    ensures { λ t. ⌜ t ≡ bitAt x a && (bitAt y b && bitAt y c) ⌝ }
-{
-    if has(x, a) {
-        has_two(y, b, y, c)
-    } else {
-        false
-    }
-}
-
-fn has_four(x: u64, a: u16, y: u64, b: u16, c: u16, d: u16) -> bool
-    ensures { λ t. ⌜ t ≡ bitAt x a && (bitAt y b && (bitAt y c && bitAt y d)) ⌝ }
-{
-    if has(x, a) {
-        has_three(y, b, y, c, d)
-    } else {
-        false
-    }
+    if left < 2 { 0 } else { 1 }
 }
 
 impl Shape {
     fn new() -> Shape
-        ensures { λ r. ⌜ r ≡ fresh ⌝ }
+        ensures { λ g. ⌜ g ≡ fresh ⌝ }
     {
         Shape {
-            entries: 0,
-            phase: 0,
+            left: 64,
+            inside: false,
             values: 0,
             words: 0,
             truths: 0,
@@ -96,115 +104,108 @@ impl Shape {
         }
     }
 
-    fn refused(mut self) -> Shape
-        ensures { λ r. ⌜ r ≡ refused self ⌝ }
+    fn refused() -> Shape
+        ensures { λ g. ⌜ g ≡ refused ⌝ }
     {
-        self.phase = 4;
-        self
+        Shape {
+            left: 0,
+            inside: false,
+            values: 0,
+            words: 0,
+            truths: 0,
+            slots: 0,
+            addresses: 0,
+        }
     }
 
     // Behind an entry that makes no value.
     fn no_value(mut self) -> Shape
         requires { ⌜ Room self ⌝ }
-        ensures { λ r. ⌜ r ≡ placed self 0 ⌝ }
+        ensures { λ g. ⌜ g ≡ placed self 0 ⌝ }
     {
-        if 2 <= self.phase {
-            return self.refused();
-        }
-        self.entries = self.entries + 1;
+        self.left = self.left - 1;
         self
     }
 
     // Behind an entry that makes a word.
     fn word(mut self) -> Shape
         requires { ⌜ Room self ⌝ }
-        ensures { λ r. ⌜ r ≡ placed self 1 ⌝ }
+        ensures { λ g. ⌜ g ≡ placed self 1 ⌝ }
     {
-        if 2 <= self.phase {
-            return self.refused();
-        }
         let n = self.values;
-        self.entries = self.entries + 1;
-        self.values = n + 1;
+        self.left = self.left - 1;
         self.words = self.words | 1u64 << n;
+        self.values = n + 1;
         self
     }
 
     // Behind an entry that makes a truth.
     fn truth(mut self) -> Shape
         requires { ⌜ Room self ⌝ }
-        ensures { λ r. ⌜ r ≡ placed self 2 ⌝ }
+        ensures { λ g. ⌜ g ≡ placed self 2 ⌝ }
     {
-        if 2 <= self.phase {
-            return self.refused();
-        }
         let n = self.values;
-        self.entries = self.entries + 1;
-        self.values = n + 1;
+        self.left = self.left - 1;
         self.truths = self.truths | 1u64 << n;
+        self.values = n + 1;
         self
     }
 
     // Behind an entry that makes a slot.
     fn slot(mut self) -> Shape
         requires { ⌜ Room self ⌝ }
-        ensures { λ r. ⌜ r ≡ placed self 3 ⌝ }
+        ensures { λ g. ⌜ g ≡ placed self 3 ⌝ }
     {
-        if 2 <= self.phase {
-            return self.refused();
-        }
         let n = self.values;
-        self.entries = self.entries + 1;
-        self.values = n + 1;
+        self.left = self.left - 1;
         self.slots = self.slots | 1u64 << n;
+        self.values = n + 1;
         self
     }
 
     // Behind an entry that makes an address.
     fn address(mut self) -> Shape
         requires { ⌜ Room self ⌝ }
-        ensures { λ r. ⌜ r ≡ placed self 4 ⌝ }
+        ensures { λ g. ⌜ g ≡ placed self 4 ⌝ }
     {
-        if 2 <= self.phase {
-            return self.refused();
-        }
         let n = self.values;
-        self.entries = self.entries + 1;
-        self.values = n + 1;
+        self.left = self.left - 1;
         self.addresses = self.addresses | 1u64 << n;
+        self.values = n + 1;
         self
     }
 
     // Behind the open.
     fn open(mut self) -> Shape
         requires { ⌜ Room self ⌝ }
-        ensures { λ r. ⌜ r ≡ opened self ⌝ }
+        ensures { λ g. ⌜ g ≡ opened self ⌝ }
     {
-        if self.phase == 0 {
-            self.phase = 1;
-            self.entries = self.entries + 1;
-            return self;
+        if self.inside {
+            return Shape::refused();
         }
-        self.refused()
+        self.inside = true;
+        self.left = self.left - 1;
+        self
     }
 
+    // Behind the close: only the end may come, so one entry is left.
     fn close(mut self) -> Shape
         requires { ⌜ Room self ⌝ }
-        ensures { λ r. ⌜ r ≡ stepOf self (Entry.Bare 101) ⌝ }
+        ensures { λ g. ⌜ g ≡ closed self ⌝ }
     {
-        if self.phase == 1 {
-            self.phase = 2;
-            self.entries = self.entries + 1;
+        if self.inside {
+            self.inside = false;
+            self.left = one_or_none(self.left);
             return self;
         }
-        self.refused()
+        Shape::refused()
     }
 
     fn end(self) -> Shape
-        ensures { λ r. ⌜ r ≡ stepOf self (Entry.Bare 255) ⌝ }
+        ensures { λ g. ⌜ g ≡ ended self ⌝ }
     {
-        if self.phase == 1 {
-            return self.refused();
+        if self.inside {
+            return Shape::refused();
         }
         Shape::new()
     }
@@ -212,7 +213,7 @@ impl Shape {
     // True, false, close, end.
     fn bare(self, k: u8) -> Shape
         requires { ⌜ Room self × (formatOf k .body ≡ Body.Bare) ⌝ }
-        ensures { λ r. ⌜ r ≡ stepOf self (Entry.Bare k) ⌝ }
+        ensures { λ g. ⌜ g ≡ stepOf self (Entry.Bare k) ⌝ }
     {
         if k == 255 {
             return self.end();
@@ -226,31 +227,62 @@ impl Shape {
     // Load a register, a predicate, a flag; a slot; a note.
     fn cell(self, k: u8, n: u8) -> Shape
         requires { ⌜ Room self × (formatOf k .body ≡ Body.Cell) ⌝ }
-        ensures { λ r. ⌜ r ≡ stepOf self (Entry.Cell k n) ⌝ }
+        ensures { λ g. ⌜ g ≡ stepOf self (Entry.Cell k n) ⌝ }
     {
-        if limit_of(k) <= n {
-            return self.refused();
-        }
         if k == 4 {
-            return self.word();
+            return self.register(n);
         }
         if k == 10 {
-            return self.slot();
+            return self.slot_of(n);
         }
         if k == 110 {
             return self.note(n);
         }
-        self.truth()
+        self.flag(k, n)
+    }
+
+    fn register(self, n: u8) -> Shape
+        requires { ⌜ Room self ⌝ }
+        ensures { λ g. ⌜ g ≡ cond (ltb n 255) (placed self 1) refused ⌝ }
+    {
+        if n < 255 {
+            return self.word();
+        }
+        Shape::refused()
+    }
+
+    // A predicate or a flag.
+    fn flag(self, k: u8, n: u8) -> Shape
+        requires { ⌜ Room self ⌝ }
+        ensures { λ g. ⌜ g ≡ cond (ltb n (cond (eqb k 5) 7 4)) (placed self 2) refused ⌝ }
+    {
+        if n < truth_limit(k) {
+            return self.truth();
+        }
+        Shape::refused()
+    }
+
+    fn slot_of(self, n: u8) -> Shape
+        requires { ⌜ Room self ⌝ }
+        ensures { λ g. ⌜ g ≡ cond (ltb n 32) (placed self 3) refused ⌝ }
+    {
+        if n < 32 {
+            return self.slot();
+        }
+        Shape::refused()
     }
 
     fn note(self, n: u8) -> Shape
         requires { ⌜ Room self ⌝ }
-        ensures { λ g. ⌜ g ≡ cond (leb 1 n) (placed self 0) (refused self) ⌝ }
+        ensures { λ g. ⌜ g ≡ cond (leb 1 n && ltb n 6) (placed self 0) refused ⌝ }
     {
-        if 1 <= n {
+        if n == 0 {
+            return Shape::refused();
+        }
+        if n < 6 {
             return self.no_value();
         }
-        self.refused()
+        Shape::refused()
     }
 
     fn store(self, k: u8, n: u8, r: u16) -> Shape
@@ -258,146 +290,90 @@ impl Shape {
         ensures { λ g. ⌜ g ≡ stepOf self (Entry.Store k n r) ⌝ }
     {
         if limit_of(k) <= n {
-            return self.refused();
+            return Shape::refused();
         }
         let mask = pick(k == 7, self.words, self.truths);
         if has(mask, r) {
             return self.no_value();
         }
-        self.refused()
+        Shape::refused()
     }
 
     // Load at an address; an operation on a word; not of a truth; open.
     fn one(self, k: u8, a: u16) -> Shape
         requires { ⌜ Room self × (formatOf k .body ≡ Body.One) ⌝ }
-        ensures { λ r. ⌜ r ≡ stepOf self (Entry.One k a) ⌝ }
+        ensures { λ g. ⌜ g ≡ stepOf self (Entry.One k a) ⌝ }
     {
-        if k == 12 {
-            return self.load_at(a);
-        }
-        if k < 80 {
-            return self.unary(a);
-        }
-        self.one_truth(k, a)
-    }
-
-    fn load_at(self, a: u16) -> Shape
-        requires { ⌜ Room self ⌝ }
-        ensures { λ g. ⌜ g ≡ cond (bitAt (self .addresses) a) (placed self 1) (refused self) ⌝ }
-    {
-        if has(self.addresses, a) {
-            return self.word();
-        }
-        self.refused()
-    }
-
-    fn unary(self, a: u16) -> Shape
-        requires { ⌜ Room self ⌝ }
-        ensures { λ g. ⌜ g ≡ cond (bitAt (self .words) a) (placed self 1) (refused self) ⌝ }
-    {
-        if has(self.words, a) {
-            return self.word();
-        }
-        self.refused()
-    }
-
-    fn one_truth(self, k: u8, a: u16) -> Shape
-        requires { ⌜ Room self ⌝ }
-        ensures { λ g. ⌜ g ≡ cond (bitAt (self .truths) a) (cond (eqb k 100) (opened self) (placed self 2)) (refused self) ⌝ }
-    {
-        if has(self.truths, a) {
-            if k == 100 {
-                return self.open();
+        let other = pick(k < 80, self.words, self.truths);
+        let mask = pick(k == 12, self.addresses, other);
+        if has(mask, a) {
+            if k < 80 {
+                return self.word();
             }
-            return self.truth();
+            if k < 100 {
+                return self.truth();
+            }
+            return self.open();
         }
-        self.refused()
+        Shape::refused()
     }
 
     // An operation on two words, a comparison of two, an operation on two truths.
     fn two(self, k: u8, a: u16, b: u16) -> Shape
         requires { ⌜ Room self × (formatOf k .body ≡ Body.Two) ⌝ }
-        ensures { λ r. ⌜ r ≡ stepOf self (Entry.Two k a b) ⌝ }
+        ensures { λ g. ⌜ g ≡ stepOf self (Entry.Two k a b) ⌝ }
     {
         if k < 60 {
             return self.binary(a, b);
         }
-        if k < 80 {
-            return self.compare(a, b);
+        let mask = pick(k < 80, self.words, self.truths);
+        if has_two(mask, a, b) {
+            return self.truth();
         }
-        self.logic(a, b)
+        Shape::refused()
     }
 
     fn binary(self, a: u16, b: u16) -> Shape
         requires { ⌜ Room self ⌝ }
-        ensures { λ g. ⌜ g ≡ cond (bitAt (self .words) a && bitAt (self .words) b) (placed self 1) (refused self) ⌝ }
+        ensures { λ g. ⌜ g ≡ cond (bitAt (self .words) a && bitAt (self .words) b) (placed self 1) refused ⌝ }
     {
-        if has_two(self.words, a, self.words, b) {
+        if has_two(self.words, a, b) {
             return self.word();
         }
-        self.refused()
-    }
-
-    fn compare(self, a: u16, b: u16) -> Shape
-        requires { ⌜ Room self ⌝ }
-        ensures { λ g. ⌜ g ≡ cond (bitAt (self .words) a && bitAt (self .words) b) (placed self 2) (refused self) ⌝ }
-    {
-        if has_two(self.words, a, self.words, b) {
-            return self.truth();
-        }
-        self.refused()
-    }
-
-    fn logic(self, a: u16, b: u16) -> Shape
-        requires { ⌜ Room self ⌝ }
-        ensures { λ g. ⌜ g ≡ cond (bitAt (self .truths) a && bitAt (self .truths) b) (placed self 2) (refused self) ⌝ }
-    {
-        if has_two(self.truths, a, self.truths, b) {
-            return self.truth();
-        }
-        self.refused()
+        Shape::refused()
     }
 
     // Select, extract.
     fn three(self, k: u8, a: u16, b: u16, c: u16) -> Shape
         requires { ⌜ Room self × (formatOf k .body ≡ Body.Three) ⌝ }
-        ensures { λ r. ⌜ r ≡ stepOf self (Entry.Three k a b c) ⌝ }
+        ensures { λ g. ⌜ g ≡ stepOf self (Entry.Three k a b c) ⌝ }
     {
         let mask = pick(k == 90, self.truths, self.words);
         if has_three(mask, a, self.words, b, c) {
             return self.word();
         }
-        self.refused()
+        Shape::refused()
     }
 
     // An address, insert.
     fn four(self, k: u8, a: u16, b: u16, c: u16, d: u16) -> Shape
         requires { ⌜ Room self × (formatOf k .body ≡ Body.Four) ⌝ }
-        ensures { λ r. ⌜ r ≡ stepOf self (Entry.Four k a b c d) ⌝ }
+        ensures { λ g. ⌜ g ≡ stepOf self (Entry.Four k a b c d) ⌝ }
     {
-        if k == 11 {
-            return self.address_of(a, b, c, d);
-        }
-        if has_four(self.words, a, self.words, b, c, d) {
+        let mask = pick(k == 11, self.slots, self.words);
+        if has_four(mask, a, self.words, b, c, d) {
+            if k == 11 {
+                return self.address();
+            }
             return self.word();
         }
-        self.refused()
-    }
-
-    fn address_of(self, a: u16, b: u16, c: u16, d: u16) -> Shape
-        requires { ⌜ Room self ⌝ }
-        ensures { λ g. ⌜ g ≡ cond (bitAt (self .slots) a && (bitAt (self .words) b && (bitAt (self .words) c && bitAt (self .words) d))) (placed self 4) (refused self) ⌝ }
-    {
-        if has_four(self.slots, a, self.words, b, c, d) {
-            return self.address();
-        }
-        self.refused()
+        Shape::refused()
     }
 
     // The state behind an entry that was read.
     fn step(self, e: Entry) -> Shape
         requires { ⌜ Room self × (formatOf (kindOf e) .body ≡ bodyOf e) ⌝ }
-        ensures { λ r. ⌜ r ≡ stepOf self e ⌝ }
+        ensures { λ g. ⌜ g ≡ stepOf self e ⌝ }
     {
         match e {
             Entry::Bare(k) => return self.bare(k),
@@ -419,20 +395,16 @@ pub fn shape_ok(run: &[u8]) -> bool
     let mut g = Shape::new();
     let mut at = 0;
     while at < run.len() {
-        let count = g.entries;
-        if 64 <= count {
-            return false;
-        }
         let Read::Found(e, n) = read_entry(&run[at..]) else {
             return false;
         };
         g = g.step(e);
-        let p = g.phase;
-        if p == 4 {
+        let left = g.left;
+        if left == 0 {
             return false;
         }
         at = at + n;
     }
-    let left = g.entries;
-    left == 0
+    let left = g.left;
+    left == 64
 }

@@ -1,4 +1,3 @@
-use borrow.Author.Tests.{eq-eqb, ne-eqb}
 use Rattle.strip.specs.Pass.{opened}
 use borrow.Author.Needs.{needs}
 use Rattle.strip.proofs.shape.Shape.open.Statement.{statement}
@@ -9,7 +8,7 @@ unfolding opened
 open-spec =
     tie.close
     (tie.spec
-    (λ c. search needs)
-    (λ c. simp (eq-eqb _ _ (c .before .if1 .taken)))
     (λ c κs. search needs)
-    (λ c. simp (ne-eqb _ _ (c .before .if1 .left)) (c .refused .ensures)))
+    (λ c. rw (c .before .if1 .taken) (c .refused .ensures))
+    (λ c. c .before .before .pre .left)
+    (λ c. rw (c .before .if1 .left)))
