@@ -5,3 +5,5 @@ pub mod Cases
 pub mod Keep
 pub mod Steps
 pub mod Flat
+pub mod Laws
+pub mod Agree

@@ -3,3 +3,4 @@ pub mod Value
 pub mod State
 pub mod Machine
 pub mod Kept
+pub mod Cells
