@@ -27,7 +27,7 @@ use Rattle.evaluation.specs.Machine.{Midway, storingWord, storingTruth, 
 use Rattle.evaluation.specs.Cells.{storeKind, stores, loadKind, loads, AgreeCells, AgreeSlots}
 use Rattle.strip.specs.Entry.{kindOf}
 use Rattle.strip.specs.Shape.{isOpen}
-use Rattle.evaluation.proofs.Laws.{cond-all, with-word, with-truth, with-slot, sets, register-stays, predicate-stays, flag-stays}
+use Rattle.evaluation.proofs.Laws.{cond-all, with-word, with-truth, address-all, sets, register-stays, predicate-stays, flag-stays}
 
 -- the effect is refusal 9
 pub missing : Effect → Bool
@@ -279,7 +279,7 @@ mutedOf (Of.Three j a b c) = Pass
 mutedOf (Of.Four j a b c d) = Pass
 
 muted-is : (m : Midway) (e : Entry) (cs : List ℕ) → muted (effectOf m e cs) ≡ mutedOf e
-unfolding mutedOf muted effectOf cellEffect storing storingWord storingTruth oneEffect entering fourEffect addressing addressWords
+unfolding mutedOf muted effectOf cellEffect storing storingWord storingTruth oneEffect entering fourEffect
 muted-is m (Of.Bare j) cs = refl
 muted-is m (Of.Word x) cs = refl
 muted-is m (Of.Cell j i) cs = cond-all Muted (eqb j 10) _ _ refl (cond-all Muted (eqb j 110) _ _ refl refl)
@@ -292,8 +292,7 @@ muted-is m (Of.Two j a b) cs = refl
 muted-is m (Of.Three j a b c) cs = refl
 muted-is m (Of.Four j a b c d) cs =
     cond-all Muted (eqb j 11) _ _
-    (with-slot Muted (Refuse UndefinedValue) _ _ refl (λ s. with-word Muted (Refuse UndefinedValue) _ _ refl (λ z. with-word Muted (Refuse UndefinedValue) _ _ refl (λ v. with-word Muted (Refuse UndefinedValue) _ _ refl
-    (λ w. cond-all Muted (eqb z 0) _ _ (cond-all Muted (ltb 4095 v) _ _ refl (cond-all Muted (ltb 3 w) _ _ refl (cond-all Muted (ltb _ (length cs)) _ _ refl refl))) refl)))))
+    (address-all Muted (λ r. refl) (λ v. refl) _ _ _ _ (length cs))
     refl
 
 held-muted : (cs ds : List ℕ) (listed : ℕ → ℕ → Bool) (agree : AgreeSlots listed cs ds) (f : Effect) → HeldEffect cs ds listed agree (muted f)
@@ -501,7 +500,7 @@ Stays f = isEnter f ≡ false
 
 -- the effect of an entry that is no open enters no block
 no-enter : (m : Midway) (e : Entry) (cs : List ℕ) → isOpen e ≡ false → Stays (effectOf m e cs)
-unfolding isEnter effectOf bareEffect cellEffect storing storingWord storingTruth oneEffect fourEffect addressing addressWords kindOf
+unfolding isEnter effectOf bareEffect cellEffect storing storingWord storingTruth oneEffect fourEffect kindOf
 no-enter m (Of.Bare j) cs o = cond-all Stays (eqb j 2) _ _ refl (cond-all Stays (eqb j 3) _ _ refl (cond-all Stays (eqb j 255) _ _ refl refl))
 no-enter m (Of.Word x) cs o = refl
 no-enter m (Of.Cell j i) cs o = cond-all Stays (eqb j 10) _ _ refl (cond-all Stays (eqb j 110) _ _ refl refl)
@@ -513,8 +512,7 @@ no-enter m (Of.Two j a b) cs o = refl
 no-enter m (Of.Three j a b c) cs o = refl
 no-enter m (Of.Four j a b c d) cs o =
     cond-all Stays (eqb j 11) _ _
-    (with-slot Stays (Refuse UndefinedValue) _ _ refl (λ s. with-word Stays (Refuse UndefinedValue) _ _ refl (λ z. with-word Stays (Refuse UndefinedValue) _ _ refl (λ v. with-word Stays (Refuse UndefinedValue) _ _ refl
-    (λ w. cond-all Stays (eqb z 0) _ _ (cond-all Stays (ltb 4095 v) _ _ refl (cond-all Stays (ltb 3 w) _ _ refl (cond-all Stays (ltb _ (length cs)) _ _ refl refl))) refl)))))
+    (address-all Stays (λ r. refl) (λ v. refl) _ _ _ _ (length cs))
     refl
 
 skip-stays : (m : Midway) (f : Effect) → Stays f → m .skip ≡ false → applied m f .skip ≡ false

@@ -113,6 +113,16 @@ module _ {A : Type 0} (P : A → Type 0) (d : A) where
   with-slot (Address n) f h g = h
   with-slot Undefined f h g = h
 
+-- an address is pushed or refused
+pub address-all : (P : Effect → Type 0) → ((r : Refusal) → P (Refuse r)) → ((v : Value) → P (Push v)) → (a b c d : Value) (size : ℕ) → P (addressing a b c d size)
+unfolding addressing addressWords
+address-all P bad good a b c d size =
+    with-slot P (Refuse UndefinedValue) a _ (bad UndefinedValue)
+    (λ s. with-word P (Refuse UndefinedValue) b _ (bad UndefinedValue)
+    (λ z. with-word P (Refuse UndefinedValue) c _ (bad UndefinedValue)
+    (λ v. with-word P (Refuse UndefinedValue) d _ (bad UndefinedValue)
+    (λ w. cond-all P (eqb z 0) _ _ (cond-all P (ltb 4095 v) _ _ (bad NoConstant) (cond-all P (ltb 3 w) _ _ (bad NoConstant) (cond-all P (ltb _ size) _ _ (good _) (bad NoConstant)))) (bad NoConstant)))))
+
 -- ---- a cell that no entry stores stays
 module _ (k n : ℕ) where
   -- the effect sets the cell
@@ -138,15 +148,6 @@ module _ (k n : ℕ) where
       go false p true q = rw (p, q) (with-truth Leaves (Refuse UndefinedValue) v (λ t. SetPred i t) refl (λ t. rw (p, q) at h))
       go false p false q = rw (p, q) (with-truth Leaves (Refuse UndefinedValue) v (λ t. SetFlag i t) refl (λ t. rw (p, q) at h))
 
-  address-leaves : (a b c d : Value) (size : ℕ) → Leaves (addressing a b c d size)
-  unfolding addressing addressWords sets
-  address-leaves a b c d size =
-      with-slot Leaves (Refuse UndefinedValue) a _ refl
-      (λ s. with-word Leaves (Refuse UndefinedValue) b _ refl
-      (λ z. with-word Leaves (Refuse UndefinedValue) c _ refl
-      (λ v. with-word Leaves (Refuse UndefinedValue) d _ refl
-      (λ w. cond-all Leaves (eqb z 0) _ _ (cond-all Leaves (ltb 4095 v) _ _ refl (cond-all Leaves (ltb 3 w) _ _ refl (cond-all Leaves (ltb _ size) _ _ refl refl))) refl))))
-
   effect-leaves : (m : Midway) (e : Entry) (cs : List ℕ) → stores k n e ≡ false → Leaves (effectOf m e cs)
   unfolding stores effectOf bareEffect cellEffect oneEffect entering fourEffect sets
   effect-leaves m (Of.Bare j) cs h = cond-all Leaves (eqb j 2) _ _ refl (cond-all Leaves (eqb j 3) _ _ refl (cond-all Leaves (eqb j 255) _ _ refl refl))
@@ -157,7 +158,7 @@ module _ (k n : ℕ) where
       cond-all Leaves (eqb j 12) _ _ refl (cond-all Leaves (eqb j 80) _ _ refl (cond-all Leaves (eqb j 100) _ _ (with-truth Leaves (Refuse UndefinedValue) _ (λ t. Enter t) refl (λ t. refl)) refl))
   effect-leaves m (Of.Two j a b) cs h = refl
   effect-leaves m (Of.Three j a b c) cs h = refl
-  effect-leaves m (Of.Four j a b c d) cs h = cond-all Leaves (eqb j 11) _ _ (address-leaves _ _ _ _ (length cs)) refl
+  effect-leaves m (Of.Four j a b c d) cs h = cond-all Leaves (eqb j 11) _ _ (address-all Leaves (λ r. refl) (λ v. refl) _ _ _ _ (length cs)) refl
 
   muted-leaves : (f : Effect) → Leaves (muted f)
   unfolding muted sets
