@@ -29,18 +29,16 @@ use Rattle.strip.specs.Entry.{kindOf}
 use Rattle.strip.specs.Shape.{isOpen}
 use Rattle.evaluation.proofs.Laws.{cond-all, with-word, with-truth, address-all, sets, register-stays, predicate-stays, flag-stays}
 
--- the effect is refusal 9
-pub missing : Effect → Bool
-missing (Push v) = false
-missing (SetReg i w) = false
-missing (SetPred i t) = false
-missing (SetFlag i t) = false
-missing (Enter t) = false
-missing Pass = false
-missing Finish = false
-missing (Refuse BadShape) = false
-missing (Refuse UndefinedValue) = false
-missing (Refuse NoConstant) = true
+-- the outcome is refusal 9
+pub lacking : Outcome → Bool
+lacking Done = false
+lacking (Refused BadShape) = false
+lacking (Refused UndefinedValue) = false
+lacking (Refused NoConstant) = true
+
+-- the effect is
+abbrev pub missing : Effect → Bool
+missing f = lacking (outcomeOf f)
 
 -- the arrays are as long
 abbrev pub Sizes : State → State → Type 0
@@ -133,7 +131,7 @@ module _ (cs ds : List ℕ) (listed : ℕ → ℕ → Bool) (agree : AgreeSlots 
   fetched-held (Address i) = cond-all Held (ltb i (length cs)) _ _ tt tt
 
   address-both : (n z v c : ℕ) → listed 10 n ≡ true → Both (addressWords n z v c (length cs)) (addressWords n z v c (length ds))
-  unfolding addressWords missing
+  unfolding addressWords outcomeOf lacking
   address-both n z v c p = go (eqb z 0) (ltb 4095 v) refl (ltb 3 c) refl (ltb (n * 16384 + v * 4 + c) (length cs)) refl (ltb (n * 16384 + v * 4 + c) (length ds)) refl
     where
       at : Bool → Bool → Bool → Bool → Effect
@@ -414,25 +412,13 @@ module _ (cs ds : List ℕ) (listed : ℕ → ℕ → Bool) (agree : AgreeSlots 
   alike-next (Refuse r) h = w
 
 -- ---- the entries of a strip
--- the outcome is refusal 9
-pub lacking : Outcome → Bool
-lacking Done = false
-lacking (Refused BadShape) = false
-lacking (Refused UndefinedValue) = false
-lacking (Refused NoConstant) = true
-
 not-missing : (f : Effect) (r : Evaluated) (s : State) → lacking ((cond (isDone (outcomeOf f)) r (ends (outcomeOf f) s)) .outcome) ≡ false → missing f ≡ false
-unfolding outcomeOf missing lacking
-not-missing (Push v) r s h = refl
-not-missing (SetReg i w) r s h = refl
-not-missing (SetPred i t) r s h = refl
-not-missing (SetFlag i t) r s h = refl
-not-missing (Enter t) r s h = refl
-not-missing Pass r s h = refl
-not-missing Finish r s h = refl
-not-missing (Refuse BadShape) r s h = refl
-not-missing (Refuse UndefinedValue) r s h = refl
-not-missing (Refuse NoConstant) r s h = absurd (true≢false h)
+unfolding lacking
+not-missing f r s h = go (outcomeOf f) h
+  where
+    go : (o : Outcome) → lacking ((cond (isDone o) r (ends o s)) .outcome) ≡ false → lacking o ≡ false
+    go Done h = refl
+    go (Refused x) h = h
 
 -- two evaluations, as long as both hold the words: the same outcome, and the states agree on what is known
 abbrev pub SameEnd : (ℕ → ℕ → Bool) → Evaluated → Evaluated → Type 0

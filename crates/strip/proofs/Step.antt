@@ -63,14 +63,14 @@ module _ (g : Shape) where
             ∙ and-true (cellIn (formatOf k) n)
             ∙ ap₂ (λ (l m : ℕ). leb l n && ltb n m) (rw b at (least-by k h)) (rw b at (limit-by k h))
 
-    pub step-store : formatOf k .body ≡ Body.Store → (n r : ℕ) → stepOf g (Store k n r) ≡ cond (ltb n (formatOf k .limit) && bitAt (cond (eqb k 7) (g .words) (g .truths)) r) (placed g 0) refused
+    pub step-store : formatOf k .body ≡ Body.Store → (n r : ℕ) → stepOf g (Store k n r) ≡ cond (ltb n (cond (eqb k 7) 255 (cond (eqb k 8) 7 4)) && bitAt (cond (eqb k 7) (g .words) (g .truths)) r) (placed g 0) refused
     unfolding kindOf fits cellOk cellsOf refsOf refsPass maskOf
     step-store b n r = plain-step (Store k n r) (no-open k h (rw b refl)) (no-close k h (rw b refl)) (no-end k h (rw b refl)) _ fit _ (rw b at (result-by k h))
       where
-        fit : fits g (Store k n r) ≡ ltb n (formatOf k .limit) && bitAt (cond (eqb k 7) (g .words) (g .truths)) r
+        fit : fits g (Store k n r) ≡ ltb n (cond (eqb k 7) 255 (cond (eqb k 8) 7 4)) && bitAt (cond (eqb k 7) (g .words) (g .truths)) r
         fit =
             ap (λ (kinds : List ℕ). ((cellIn (formatOf k) n && true) && refsPass (has g) kinds (r ∷ []))) (rw b at (operands-by k h))
-            ∙ ap₂ _&&_ (and-true (cellIn (formatOf k) n) ∙ ap (λ (l : ℕ). leb l n && ltb n (formatOf k .limit)) (rw b at (least-by k h)) ∙ ap (λ (t : Bool). t && ltb n (formatOf k .limit)) (leb·zero n))
+            ∙ ap₂ _&&_ (and-true (cellIn (formatOf k) n) ∙ ap₂ (λ (l m : ℕ). leb l n && ltb n m) (rw b at (least-by k h)) (rw b at (limit-by k h)) ∙ ap (λ (t : Bool). t && ltb n (cond (eqb k 7) 255 (cond (eqb k 8) 7 4))) (leb·zero n))
             (and-true (has g (cond (eqb k 7) 1 2) r) ∙ ap (λ (m : ℕ). bitAt m r) (mask-cond (eqb k 7) 1 2))
 
     -- a load at an address, an operation on a word, not of a truth, open

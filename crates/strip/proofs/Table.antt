@@ -1,5 +1,5 @@
 -- The table: what holds of each row holds of each kind's format, and what each body's kinds have in its other columns.
-use mathlib.Core.Path.{_≡_, refl, ap₂}
+use mathlib.Core.Path.{_≡_, refl, ap₂, sym}
 use mathlib.Core.List.{List, [], _∷_}
 use mathlib.Core.Bool.{Bool, true, false, cond, not, _&&_, _||_, Bool·beq, true≢false, false≢true}
 use Prim.Native.Nat.{ℕ, _≤_, _<_}
@@ -172,22 +172,32 @@ end-computed = tt
 pub no-end : (k : ℕ) → k < 256 → blockBy (formatOf k .body) .2 ≡ false → eqb k 255 ≡ false
 no-end k h = excluded (eqb k 255) _ (below (λ k. not (eqb k 255) || blockBy (formatOf k .body) .2) 256 end-computed k h)
 
--- of the kinds with one reference, open is the last
-isOne : Body → Bool
-isOne Body.Unknown = false
-isOne Body.Bare = false
-isOne Body.Word = false
-isOne Body.Cell = false
-isOne Body.Store = false
-isOne Body.One = true
-isOne Body.Two = false
-isOne Body.Three = false
-isOne Body.Four = false
+-- bodies as numbers, so that a test on one computes
+unfoldable pub bodyNumber : Body → ℕ
+bodyNumber Body.Unknown = 0
+bodyNumber Body.Bare = 1
+bodyNumber Body.Word = 2
+bodyNumber Body.Cell = 3
+bodyNumber Body.Store = 4
+bodyNumber Body.One = 5
+bodyNumber Body.Two = 6
+bodyNumber Body.Three = 7
+bodyNumber Body.Four = 8
 
-last-computed : T (every (λ k. not (isOne (formatOf k .body)) || (ltb k 100 || eqb k 100)) 0 256)
-unfolding formatOf isOne
+-- of the kinds with one reference, open is the last
+last-computed : T (every (λ k. not (eqb (bodyNumber (formatOf k .body)) 5) || (ltb k 100 || eqb k 100)) 0 256)
+unfolding formatOf bodyNumber
 last-computed = tt
 
 pub one-last : (k : ℕ) → k < 256 → formatOf k .body ≡ Body.One → ltb k 100 ≡ false → k ≡ 100
-unfolding isOne
-one-last k h b p = eqb→eq k 100 (rw (b, p) at (below (λ k. not (isOne (formatOf k .body)) || (ltb k 100 || eqb k 100)) 256 last-computed k h))
+unfolding bodyNumber
+one-last k h b p = eqb→eq k 100 (rw (b, p) at (below (λ k. not (eqb (bodyNumber (formatOf k .body)) 5) || (ltb k 100 || eqb k 100)) 256 last-computed k h))
+
+-- and the word constant has one kind
+word-computed : T (every (λ k. not (eqb (bodyNumber (formatOf k .body)) 2) || eqb k 1) 0 256)
+unfolding formatOf bodyNumber
+word-computed = tt
+
+pub word-kind : (k : ℕ) → k < 256 → formatOf k .body ≡ Body.Word → 1 ≡ k
+unfolding bodyNumber
+word-kind k h p = sym (eqb→eq k 1 (rw p at (below (λ k. not (eqb (bodyNumber (formatOf k .body)) 2) || eqb k 1) 256 word-computed k h)))

@@ -58,24 +58,17 @@ fn pick(test: bool, yes: u64, no: u64) -> u64
     if test { yes } else { no }
 }
 
-// The number that a cell of kind k stays below.
-fn limit_of(k: u8) -> u8
-    ensures { λ g. ⌜ g ≡ formatOf k .limit ⌝ }
+// The number that the cell of a store stays below: registers, predicates, flags.
+fn store_limit(k: u8) -> u8
+    ensures { λ r. ⌜ r ≡ cond (eqb k 7) 255 (cond (eqb k 8) 7 4) ⌝ }
 {
-    match k {
-        4 => 255,
-        5 => 7,
-        6 => 4,
-        7 => 255,
-        8 => 7,
-        9 => 4,
-        10 => 32,
-        110 => 6,
-        _ => 0,
+    if k == 7 {
+        return 255;
     }
+    if k == 8 { 7 } else { 4 }
 }
 
-// Predicates and flags.
+// The same for a load of a predicate or a flag.
 fn truth_limit(k: u8) -> u8
     ensures { λ r. ⌜ r ≡ cond (eqb k 5) 7 4 ⌝ }
 {
@@ -289,7 +282,7 @@ impl Shape {
         requires { ⌜ Room self × (formatOf k .body ≡ Body.Store) ⌝ }
         ensures { λ g. ⌜ g ≡ stepOf self (Entry.Store k n r) ⌝ }
     {
-        if limit_of(k) <= n {
+        if store_limit(k) <= n {
             return Shape::refused();
         }
         let mask = pick(k == 7, self.words, self.truths);
