@@ -18,12 +18,10 @@ use Rattle.evaluation.specs.declared.machine.Outcome.the-variants.{Done,
 use Rattle.evaluation.specs.declared.machine.Evaluated.{Evaluated}
 use Rattle.evaluation.specs.declared.machine.Refusal.{Refusal}
 use Rattle.evaluation.specs.declared.machine.Refusal.the-variants.{BadShape, UndefinedValue, NoConstant}
-use Rattle.evaluation.specs.declared.machine.Effect.{Effect}
-use Rattle.evaluation.specs.declared.machine.Effect.the-variants.{Push, SetReg, SetPred, SetFlag, Enter, Pass, Finish, Refuse}
 use Rattle.evaluation.specs.Word.{unaryWord, binaryWord, extractWord, insertWord}
 use Rattle.evaluation.specs.Value.{withWord, withTruth, withSlot, withAddress, unary, negated, binary, compared, logic, two, chosen, extracted, three, insertedValue}
 use Rattle.evaluation.specs.State.{loaded, storedReg, storedPred, storedFlag}
-use Rattle.evaluation.specs.Machine.{Midway, storingWord, storingTruth, storing, entering, addressWords, addressing, fetched, bareEffect, cellEffect, oneEffect, fourEffect, valueAt, effectOf, muted, stepOf, begun, pushed, applied, isDone, outcomeOf, ends, entriesFrom}
+use Rattle.evaluation.specs.Machine.{Effect, Push, SetReg, SetPred, SetFlag, Enter, Pass, Finish, Refuse, Midway, storingWord, storingTruth, storing, entering, addressWords, addressing, fetched, bareEffect, cellEffect, oneEffect, fourEffect, valueAt, effectOf, muted, stepOf, begun, pushed, applied, isDone, outcomeOf, ends, entriesFrom}
 use Rattle.evaluation.specs.Cells.{storeKind, stores, loadKind, loads, AgreeCells, AgreeSlots}
 use Rattle.strip.specs.Entry.{kindOf}
 use Rattle.strip.specs.Shape.{isOpen}

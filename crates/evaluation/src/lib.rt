@@ -1,4 +1,5 @@
 // Evaluation of runs of strips by the Khronos definitions.
+mod kept;
 mod machine;
 mod operation;
 mod state;

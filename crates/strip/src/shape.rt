@@ -5,7 +5,7 @@ ghost use lib.Dec.{leb, ltb, eqb};
 ghost use Rattle.strip.specs.Format.{formatOf};
 ghost use Rattle.strip.specs.Entry.{kindOf, bodyOf};
 ghost use Rattle.strip.specs.Shape.{shapeOk};
-ghost use Rattle.strip.specs.Pass.{Room, fresh, refused, bitAt, placed, opened, closed, ended, stepOf};
+ghost use Rattle.strip.specs.Pass.{Ready, fresh, refused, bitAt, placed, opened, closed, ended, stepOf};
 use crate::format::Body;
 use crate::reader::Entry;
 use crate::reader::Read;
@@ -13,10 +13,10 @@ use crate::reader::read_entry;
 
 // What the entries of a strip so far say of the next one. left: how many may still come: 64 at first, 1 behind the close,
 // 0 where an entry was refused. inside: the block is open. words, truths, slots, addresses: bit r is set where value r is of that kind.
-struct Shape {
-    left: usize,
+pub struct Shape {
+    pub left: usize,
     inside: bool,
-    values: usize,
+    pub values: usize,
     words: u64,
     truths: u64,
     slots: u64,
@@ -83,7 +83,7 @@ fn one_or_none(left: usize) -> usize
 }
 
 impl Shape {
-    fn new() -> Shape
+    pub fn new() -> Shape
         ensures { λ g. ⌜ g ≡ fresh ⌝ }
     {
         Shape {
@@ -113,7 +113,7 @@ impl Shape {
 
     // Behind an entry that makes no value.
     fn no_value(mut self) -> Shape
-        requires { ⌜ Room self ⌝ }
+        requires { ⌜ Ready self ⌝ }
         ensures { λ g. ⌜ g ≡ placed self 0 ⌝ }
     {
         self.left = self.left - 1;
@@ -121,8 +121,8 @@ impl Shape {
     }
 
     // Behind an entry that makes a word.
-    fn word(mut self) -> Shape
-        requires { ⌜ Room self ⌝ }
+    pub fn word(mut self) -> Shape
+        requires { ⌜ Ready self ⌝ }
         ensures { λ g. ⌜ g ≡ placed self 1 ⌝ }
     {
         let n = self.values;
@@ -133,8 +133,8 @@ impl Shape {
     }
 
     // Behind an entry that makes a truth.
-    fn truth(mut self) -> Shape
-        requires { ⌜ Room self ⌝ }
+    pub fn truth(mut self) -> Shape
+        requires { ⌜ Ready self ⌝ }
         ensures { λ g. ⌜ g ≡ placed self 2 ⌝ }
     {
         let n = self.values;
@@ -146,7 +146,7 @@ impl Shape {
 
     // Behind an entry that makes a slot.
     fn slot(mut self) -> Shape
-        requires { ⌜ Room self ⌝ }
+        requires { ⌜ Ready self ⌝ }
         ensures { λ g. ⌜ g ≡ placed self 3 ⌝ }
     {
         let n = self.values;
@@ -158,7 +158,7 @@ impl Shape {
 
     // Behind an entry that makes an address.
     fn address(mut self) -> Shape
-        requires { ⌜ Room self ⌝ }
+        requires { ⌜ Ready self ⌝ }
         ensures { λ g. ⌜ g ≡ placed self 4 ⌝ }
     {
         let n = self.values;
@@ -168,9 +168,9 @@ impl Shape {
         self
     }
 
-    // Behind the open.
-    fn open(mut self) -> Shape
-        requires { ⌜ Room self ⌝ }
+    // Behind an open of a truth.
+    fn opened(mut self) -> Shape
+        requires { ⌜ Ready self ⌝ }
         ensures { λ g. ⌜ g ≡ opened self ⌝ }
     {
         if self.inside {
@@ -182,8 +182,8 @@ impl Shape {
     }
 
     // Behind the close: only the end may come, so one entry is left.
-    fn close(mut self) -> Shape
-        requires { ⌜ Room self ⌝ }
+    pub fn close(mut self) -> Shape
+        requires { ⌜ Ready self ⌝ }
         ensures { λ g. ⌜ g ≡ closed self ⌝ }
     {
         if self.inside {
@@ -194,7 +194,7 @@ impl Shape {
         Shape::refused()
     }
 
-    fn end(self) -> Shape
+    pub fn end(self) -> Shape
         ensures { λ g. ⌜ g ≡ ended self ⌝ }
     {
         if self.inside {
@@ -205,7 +205,7 @@ impl Shape {
 
     // True, false, close, end.
     fn bare(self, k: u8) -> Shape
-        requires { ⌜ Room self × (formatOf k .body ≡ Body.Bare) ⌝ }
+        requires { ⌜ Ready self × (formatOf k .body ≡ Body.Bare) ⌝ }
         ensures { λ g. ⌜ g ≡ stepOf self (Entry.Bare k) ⌝ }
     {
         if k == 255 {
@@ -219,7 +219,7 @@ impl Shape {
 
     // Load a register, a predicate, a flag; a slot; a note.
     fn cell(self, k: u8, n: u8) -> Shape
-        requires { ⌜ Room self × (formatOf k .body ≡ Body.Cell) ⌝ }
+        requires { ⌜ Ready self × (formatOf k .body ≡ Body.Cell) ⌝ }
         ensures { λ g. ⌜ g ≡ stepOf self (Entry.Cell k n) ⌝ }
     {
         if k == 4 {
@@ -234,8 +234,8 @@ impl Shape {
         self.flag(k, n)
     }
 
-    fn register(self, n: u8) -> Shape
-        requires { ⌜ Room self ⌝ }
+    pub fn register(self, n: u8) -> Shape
+        requires { ⌜ Ready self ⌝ }
         ensures { λ g. ⌜ g ≡ cond (ltb n 255) (placed self 1) refused ⌝ }
     {
         if n < 255 {
@@ -245,8 +245,8 @@ impl Shape {
     }
 
     // A predicate or a flag.
-    fn flag(self, k: u8, n: u8) -> Shape
-        requires { ⌜ Room self ⌝ }
+    pub fn flag(self, k: u8, n: u8) -> Shape
+        requires { ⌜ Ready self ⌝ }
         ensures { λ g. ⌜ g ≡ cond (ltb n (cond (eqb k 5) 7 4)) (placed self 2) refused ⌝ }
     {
         if n < truth_limit(k) {
@@ -255,8 +255,8 @@ impl Shape {
         Shape::refused()
     }
 
-    fn slot_of(self, n: u8) -> Shape
-        requires { ⌜ Room self ⌝ }
+    pub fn slot_of(self, n: u8) -> Shape
+        requires { ⌜ Ready self ⌝ }
         ensures { λ g. ⌜ g ≡ cond (ltb n 32) (placed self 3) refused ⌝ }
     {
         if n < 32 {
@@ -265,8 +265,8 @@ impl Shape {
         Shape::refused()
     }
 
-    fn note(self, n: u8) -> Shape
-        requires { ⌜ Room self ⌝ }
+    pub fn note(self, n: u8) -> Shape
+        requires { ⌜ Ready self ⌝ }
         ensures { λ g. ⌜ g ≡ cond (leb 1 n && ltb n 6) (placed self 0) refused ⌝ }
     {
         if n == 0 {
@@ -278,8 +278,8 @@ impl Shape {
         Shape::refused()
     }
 
-    fn store(self, k: u8, n: u8, r: u16) -> Shape
-        requires { ⌜ Room self × (formatOf k .body ≡ Body.Store) ⌝ }
+    pub fn store(self, k: u8, n: u8, r: u16) -> Shape
+        requires { ⌜ Ready self × (formatOf k .body ≡ Body.Store) ⌝ }
         ensures { λ g. ⌜ g ≡ stepOf self (Entry.Store k n r) ⌝ }
     {
         if store_limit(k) <= n {
@@ -294,40 +294,77 @@ impl Shape {
 
     // Load at an address; an operation on a word; not of a truth; open.
     fn one(self, k: u8, a: u16) -> Shape
-        requires { ⌜ Room self × (formatOf k .body ≡ Body.One) ⌝ }
+        requires { ⌜ Ready self × (formatOf k .body ≡ Body.One) ⌝ }
         ensures { λ g. ⌜ g ≡ stepOf self (Entry.One k a) ⌝ }
     {
-        let other = pick(k < 80, self.words, self.truths);
-        let mask = pick(k == 12, self.addresses, other);
-        if has(mask, a) {
-            if k < 80 {
-                return self.word();
-            }
-            if k < 100 {
-                return self.truth();
-            }
-            return self.open();
+        if k == 12 {
+            return self.load_at(a);
+        }
+        if k == 80 {
+            return self.negate(a);
+        }
+        if k == 100 {
+            return self.open(a);
+        }
+        self.unary(a)
+    }
+
+    pub fn load_at(self, a: u16) -> Shape
+        requires { ⌜ Ready self ⌝ }
+        ensures { λ g. ⌜ g ≡ cond (bitAt (self .addresses) a) (placed self 1) refused ⌝ }
+    {
+        if has(self.addresses, a) {
+            return self.word();
+        }
+        Shape::refused()
+    }
+
+    pub fn unary(self, a: u16) -> Shape
+        requires { ⌜ Ready self ⌝ }
+        ensures { λ g. ⌜ g ≡ cond (bitAt (self .words) a) (placed self 1) refused ⌝ }
+    {
+        if has(self.words, a) {
+            return self.word();
+        }
+        Shape::refused()
+    }
+
+    pub fn negate(self, a: u16) -> Shape
+        requires { ⌜ Ready self ⌝ }
+        ensures { λ g. ⌜ g ≡ cond (bitAt (self .truths) a) (placed self 2) refused ⌝ }
+    {
+        if has(self.truths, a) {
+            return self.truth();
+        }
+        Shape::refused()
+    }
+
+    pub fn open(self, a: u16) -> Shape
+        requires { ⌜ Ready self ⌝ }
+        ensures { λ g. ⌜ g ≡ cond (bitAt (self .truths) a) (opened self) refused ⌝ }
+    {
+        if has(self.truths, a) {
+            return self.opened();
         }
         Shape::refused()
     }
 
     // An operation on two words, a comparison of two, an operation on two truths.
     fn two(self, k: u8, a: u16, b: u16) -> Shape
-        requires { ⌜ Room self × (formatOf k .body ≡ Body.Two) ⌝ }
+        requires { ⌜ Ready self × (formatOf k .body ≡ Body.Two) ⌝ }
         ensures { λ g. ⌜ g ≡ stepOf self (Entry.Two k a b) ⌝ }
     {
         if k < 60 {
             return self.binary(a, b);
         }
-        let mask = pick(k < 80, self.words, self.truths);
-        if has_two(mask, a, b) {
-            return self.truth();
+        if k < 80 {
+            return self.compare(a, b);
         }
-        Shape::refused()
+        self.logic(a, b)
     }
 
-    fn binary(self, a: u16, b: u16) -> Shape
-        requires { ⌜ Room self ⌝ }
+    pub fn binary(self, a: u16, b: u16) -> Shape
+        requires { ⌜ Ready self ⌝ }
         ensures { λ g. ⌜ g ≡ cond (bitAt (self .words) a && bitAt (self .words) b) (placed self 1) refused ⌝ }
     {
         if has_two(self.words, a, b) {
@@ -336,9 +373,29 @@ impl Shape {
         Shape::refused()
     }
 
+    pub fn compare(self, a: u16, b: u16) -> Shape
+        requires { ⌜ Ready self ⌝ }
+        ensures { λ g. ⌜ g ≡ cond (bitAt (self .words) a && bitAt (self .words) b) (placed self 2) refused ⌝ }
+    {
+        if has_two(self.words, a, b) {
+            return self.truth();
+        }
+        Shape::refused()
+    }
+
+    pub fn logic(self, a: u16, b: u16) -> Shape
+        requires { ⌜ Ready self ⌝ }
+        ensures { λ g. ⌜ g ≡ cond (bitAt (self .truths) a && bitAt (self .truths) b) (placed self 2) refused ⌝ }
+    {
+        if has_two(self.truths, a, b) {
+            return self.truth();
+        }
+        Shape::refused()
+    }
+
     // Select, extract.
-    fn three(self, k: u8, a: u16, b: u16, c: u16) -> Shape
-        requires { ⌜ Room self × (formatOf k .body ≡ Body.Three) ⌝ }
+    pub fn three(self, k: u8, a: u16, b: u16, c: u16) -> Shape
+        requires { ⌜ Ready self × (formatOf k .body ≡ Body.Three) ⌝ }
         ensures { λ g. ⌜ g ≡ stepOf self (Entry.Three k a b c) ⌝ }
     {
         let mask = pick(k == 90, self.truths, self.words);
@@ -349,8 +406,8 @@ impl Shape {
     }
 
     // An address, insert.
-    fn four(self, k: u8, a: u16, b: u16, c: u16, d: u16) -> Shape
-        requires { ⌜ Room self × (formatOf k .body ≡ Body.Four) ⌝ }
+    pub fn four(self, k: u8, a: u16, b: u16, c: u16, d: u16) -> Shape
+        requires { ⌜ Ready self × (formatOf k .body ≡ Body.Four) ⌝ }
         ensures { λ g. ⌜ g ≡ stepOf self (Entry.Four k a b c d) ⌝ }
     {
         let mask = pick(k == 11, self.slots, self.words);
@@ -365,7 +422,7 @@ impl Shape {
 
     // The state behind an entry that was read.
     fn step(self, e: Entry) -> Shape
-        requires { ⌜ Room self × (formatOf (kindOf e) .body ≡ bodyOf e) ⌝ }
+        requires { ⌜ Ready self × (formatOf (kindOf e) .body ≡ bodyOf e) ⌝ }
         ensures { λ g. ⌜ g ≡ stepOf self e ⌝ }
     {
         match e {
