@@ -3,9 +3,10 @@
 //! - [`translate`] and [`translate_into`] give a record's strip or its refusal.
 //! - [`shape`] tests a run of strips in plain Rust, [`evaluate`] runs it.
 //! - [`generate`] makes random records, [`strips`] random strips, [`starts`] random states and lists of constants,
-//!   [`vectors`] the stored list of answers.
+//!   [`vectors`] the stored list of answers, [`cases`] hand-made runs with theirs.
 //! - [`mod@print`] is the strip printer.
 
+pub mod cases;
 pub mod evaluate;
 pub mod extraction;
 pub mod format;

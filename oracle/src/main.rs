@@ -7,7 +7,7 @@ use oracle::format::value_count;
 use oracle::generate::{random_admitted, random_record};
 use oracle::record::NAMES;
 use oracle::rng::Rng;
-use oracle::{SLOTS, format, print, translate_entries, vectors};
+use oracle::{SLOTS, cases, format, print, translate_entries, vectors};
 
 const HELP: &str = "\
 oracle: the unchanged text of the reference translator, run over recording stand-ins
@@ -26,6 +26,11 @@ Usage:
       For each record: the record (18 bytes); the slot whose use mark it raises, or 255 (1); that mark, or 0 (4);
       the refusal number, or 0 (1); the strip's length, 0 if refused (2); the strip. Numbers are little-endian.
       All marks are 0 before each record.
+  oracle cases [--answers]
+      Writes the hand-made runs for the program crates/evaluation_cases, one to a line: how many constant words are
+      lent and the run, both in hex (`-` for a run of no bytes), and a name.
+      --answers writes the lines that the program must write: 0 or the number of the refusal, each cell that is not
+      as at the start, the name.
   oracle count COUNT SEED
       Translates COUNT random records and prints for each kind how many were accepted and refused, and the most
       entries, values and bytes in one strip.
@@ -76,9 +81,11 @@ fn run(args: &[&str]) -> Result<(), Failure> {
             generate(output, number(seed)?, number(count)?, true)
         }
         ["vectors"] => write_all(output, &vectors::stored_list()),
+        ["cases"] => write_all(output, cases::lines().as_bytes()),
+        ["cases", "--answers"] => write_all(output, cases::answers().as_bytes()),
         ["count", count, seed] => statistics(output, number(count)?, number(seed)?),
         [] => Err(Failure::Usage("no command".to_owned())),
-        [command @ ("print" | "gen" | "vectors" | "count"), ..] => {
+        [command @ ("print" | "gen" | "vectors" | "cases" | "count"), ..] => {
             Err(Failure::Usage(format!("wrong arguments for `{command}`")))
         }
         [command, ..] => Err(Failure::Usage(format!("no command `{command}`"))),
