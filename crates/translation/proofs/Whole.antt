@@ -1,0 +1,244 @@
+-- What the code writes for a record is its strip, and the mark that it raises gives its marks: nothing is ever cut off.
+use mathlib.Core.Path.{_≡_, refl, sym, ap, _∙_}
+use mathlib.Core.Bool.{Bool, true, false, cond, _&&_}
+use mathlib.Core.List.{List, [], _∷_, _++_, append-assoc, append-nil}
+use Prim.Native.Nat.{ℕ, suc, _+_, _*_, _%_, _≤_, _<_}
+use native.Mathlib.Omega.{arith}
+use lib.Dec.{eqb}
+use lib.ListN.{length, set as replace, getD, drop, length-append}
+use lib.Seq.{sets, sets-eq, paste, paste-suc, take-append-seam}
+use borrow.Author.Tests.{le-leb, lt-leb}
+use Rattle.strip.specs.declared.reader.Entry.{Entry}
+use Rattle.strip.specs.declared.reader.Entry.the-variants as Of
+use Rattle.strip.specs.Entry.{kindOf, refsOf, immediateOf, encode}
+use Rattle.strip.specs.Shape.{stripBytes}
+use Rattle.translation.specs.Insn.{Insn, bits, bit}
+use Rattle.translation.specs.Code.{Code, Built, build}
+use Rattle.translation.specs.Helpers.{r, set, logicalNotIf, predicate, p, setp, b2u, cbufAt, cbufImm, srcB, srcBc, inot, ineg, carryFlag, signedOverflow, setCc, setCcNone, setSumCc, addWithFlags, addWithCarry, saturateAdd, boolOp, lessThan, lessThanEqual, greaterThan, greaterThanEqual, intCmp, ccCase, ccTest, shifted, shiftFill, shiftEnd, shift, lop3Row, lop3Rows, lop3, extract, field, half16, halfSelect, videoOperand, intSource, clampHigh, saturateBy, saturateInt}
+use Rattle.translation.specs.Arms.{mov, mov32i, sel, setpBoth, setTruth, csetp, setWord, setEither, icompare, pcombine, prepared, addFlag, addOne, iaddSum, iaddOf, iadd, iadd32i, iadd3Shift, iadd3Sum, iadd3Of, iadd3Fetch, iadd3, iscadd, xmadShift, xmadAlter, xmadMerge, xmadProduct, xmadOf, xmadBc, xmadFetch, xmad, minOf, maxOf, imnmx, icmpOf, icmpBc, icmp, lopWord, lopTest, lopPredicate, lop, lop32i, lop3Arm, shl, reverseIf, shr, insertField, extractField, useField, fieldOf, bfe, bfiOf, bfiBc, bfi, vmnmxB, vmnmxMixed, vmnmxFirst, minOrMax, vmnmxWord, vmnmxSaturate, vmnmxInsert, vmnmxMerge, vmnmxOf, vmnmx, absolute, saturateIf, i2i, findMsb, floShift, flo, popc, noteUnless, storeCell, r2pTurn, r2pTurns, r2p, loadCell, p2rTurn, p2rTurns, p2r, shfAmount, shfSelect, shfWord, shfOf, shf, leaB, leaJoin, leaWord, lea, armOf}
+use Rattle.translation.specs.Marks.{raise, uses}
+use Rattle.translation.specs.Emit.{Buffer, Value, wrote, emits, view}
+use Rattle.translation.specs.Strip.{Answer, guard, guardNot, block, guarded, entriesOf, strip, marked, refused, fitted}
+use Rattle.translation.specs.Whole.{writes}
+use Rattle.translation.specs.declared.writer.Pos.{Pos}
+use Rattle.translation.specs.declared.answer.Outcome.the-variants.{Written}
+use Rattle.translation.specs.declared.answer.Refusal.the-variants.{NoRoom}
+use Rattle.translation.proofs.Fits.{bytes-append, sets-append, bound, room, marks, roomy, next-bound, Mark, last, markOf, Fit, fits}
+use Rattle.translation.proofs.Marked.{clear, none-used, raise-none, one-used}
+
+-- ---- how much an arm writes, whatever the mode bits
+pub arm-room : (k : ℕ) (i : Insn) → room (armOf k i) ≤ 245
+unfolding mov mov32i sel setpBoth setTruth csetp setWord setEither icompare pcombine prepared addFlag addOne iaddSum iaddOf iadd iadd32i iadd3Shift iadd3Sum iadd3Of iadd3Fetch iadd3 iscadd xmadShift xmadAlter xmadMerge xmadProduct xmadOf xmadBc xmadFetch xmad minOf maxOf imnmx icmpOf icmpBc icmp lopWord lopTest lopPredicate lop lop32i lop3Arm shl reverseIf shr insertField extractField useField fieldOf bfe bfiOf bfiBc bfi vmnmxB vmnmxMixed vmnmxFirst minOrMax vmnmxWord vmnmxSaturate vmnmxInsert vmnmxMerge vmnmxOf vmnmx absolute saturateIf i2i findMsb floShift flo popc noteUnless storeCell r2pTurn r2pTurns r2p loadCell p2rTurn p2rTurns p2r shfAmount shfSelect shfWord shfOf shf leaB leaJoin leaWord lea armOf r set logicalNotIf predicate p setp b2u cbufAt cbufImm srcB srcBc inot ineg carryFlag signedOverflow setCc setCcNone setSumCc addWithFlags addWithCarry saturateAdd boolOp lessThan lessThanEqual greaterThan greaterThanEqual intCmp ccCase ccTest shifted shiftFill shiftEnd shift lop3Row lop3Rows lop3 extract field half16 halfSelect videoOperand intSource clampHigh saturateBy saturateInt
+arm-room k i = omega arith
+
+pub arm-bound : (k : ℕ) (i : Insn) → bound (armOf k i) ≤ 59
+unfolding mov mov32i sel setpBoth setTruth csetp setWord setEither icompare pcombine prepared addFlag addOne iaddSum iaddOf iadd iadd32i iadd3Shift iadd3Sum iadd3Of iadd3Fetch iadd3 iscadd xmadShift xmadAlter xmadMerge xmadProduct xmadOf xmadBc xmadFetch xmad minOf maxOf imnmx icmpOf icmpBc icmp lopWord lopTest lopPredicate lop lop32i lop3Arm shl reverseIf shr insertField extractField useField fieldOf bfe bfiOf bfiBc bfi vmnmxB vmnmxMixed vmnmxFirst minOrMax vmnmxWord vmnmxSaturate vmnmxInsert vmnmxMerge vmnmxOf vmnmx absolute saturateIf i2i findMsb floShift flo popc noteUnless storeCell r2pTurn r2pTurns r2p loadCell p2rTurn p2rTurns p2r shfAmount shfSelect shfWord shfOf shf leaB leaJoin leaWord lea armOf r set logicalNotIf predicate p setp b2u cbufAt cbufImm srcB srcBc inot ineg carryFlag signedOverflow setCc setCcNone setSumCc addWithFlags addWithCarry saturateAdd boolOp lessThan lessThanEqual greaterThan greaterThanEqual intCmp ccCase ccTest shifted shiftFill shiftEnd shift lop3Row lop3Rows lop3 extract field half16 halfSelect videoOperand intSource clampHigh saturateBy saturateInt
+arm-bound k i = omega arith
+
+pub arm-marks : (k : ℕ) (i : Insn) → marks (armOf k i) ≤ 1
+unfolding mov mov32i sel setpBoth setTruth csetp setWord setEither icompare pcombine prepared addFlag addOne iaddSum iaddOf iadd iadd32i iadd3Shift iadd3Sum iadd3Of iadd3Fetch iadd3 iscadd xmadShift xmadAlter xmadMerge xmadProduct xmadOf xmadBc xmadFetch xmad minOf maxOf imnmx icmpOf icmpBc icmp lopWord lopTest lopPredicate lop lop32i lop3Arm shl reverseIf shr insertField extractField useField fieldOf bfe bfiOf bfiBc bfi vmnmxB vmnmxMixed vmnmxFirst minOrMax vmnmxWord vmnmxSaturate vmnmxInsert vmnmxMerge vmnmxOf vmnmx absolute saturateIf i2i findMsb floShift flo popc noteUnless storeCell r2pTurn r2pTurns r2p loadCell p2rTurn p2rTurns p2r shfAmount shfSelect shfWord shfOf shf leaB leaJoin leaWord lea armOf r set logicalNotIf predicate p setp b2u cbufAt cbufImm srcB srcBc inot ineg carryFlag signedOverflow setCc setCcNone setSumCc addWithFlags addWithCarry saturateAdd boolOp lessThan lessThanEqual greaterThan greaterThanEqual intCmp ccCase ccTest shifted shiftFill shiftEnd shift lop3Row lop3Rows lop3 extract field half16 halfSelect videoOperand intSource clampHigh saturateBy saturateInt
+arm-marks k i = omega arith
+
+guard-room : (k : ℕ) (n : Bool) → room (p k n) ≤ 5
+unfolding p predicate logicalNotIf
+guard-room k n = omega arith
+
+guard-bound : (k : ℕ) (n : Bool) → bound (p k n) ≤ 2
+unfolding p predicate logicalNotIf
+guard-bound k n = omega arith
+
+guard-marks : (k : ℕ) (n : Bool) → marks (p k n) ≡ 0
+unfolding p predicate logicalNotIf
+guard-marks k n = refl
+
+-- ---- a buffer that holds bytes from its front on
+pub record Holds (l : List ℕ) (b : Buffer) (xs : List ℕ) : Type 0 where
+  pub list : b .list ≡ sets l 0 xs
+  pub at : b .at ≡ length xs
+
+hold-entry : (l xs : List ℕ) (b : Buffer) (e : Entry) → Holds l b xs → length xs + length (encode e) ≤ 255 → Holds l (wrote e b) (xs ++ encode e)
+unfolding wrote
+hold-entry l xs b e h k = record {
+  list = rw (h .list) (sets-append xs (encode e) l 0 (b .at) (omega (arith, h .at)));
+  at = omega (arith, h .at, length-append xs (encode e));
+}
+
+hold-fit : (l xs : List ℕ) (b : Buffer) (m : Value) (es : List Entry) (r n : ℕ) (k : Mark) → Holds l b xs → Fit b m es r n k → Holds l (m .buffer) (xs ++ stripBytes es)
+hold-fit l xs b m es r n k h f = record {
+  list = f .list ∙ rw (h .list) (sets-append xs (stripBytes es) l 0 (b .at) (omega (arith, h .at)));
+  at = omega (arith, f .at, h .at, length-append xs (stripBytes es));
+}
+
+abbrev pub start : List ℕ → Buffer
+start l = record { list = l; at = 0; next = 0; slot = 0; need = 0 }
+
+-- from l the code comes to b: it holds the bytes xs, and its mark takes the marks m to f m
+pub record Holding (l : List ℕ) (b : Buffer) (xs : List ℕ) (f : List ℕ → List ℕ) : Type 0 where
+  pub holds : Holds l b xs
+  pub short : length xs ≤ 255
+  pub mark : (m : List ℕ) → raise m (b .slot) (b .need) ≡ f m
+
+wrote-slot : (e : Entry) (b : Buffer) → wrote e b .slot ≡ b .slot
+unfolding wrote
+wrote-slot e b = refl
+
+wrote-need : (e : Entry) (b : Buffer) → wrote e b .need ≡ b .need
+unfolding wrote
+wrote-need e b = refl
+
+wrote-next : (e : Entry) (b : Buffer) → wrote e b .next ≡ b .next
+unfolding wrote
+wrote-next e b = refl
+
+bare-size : (k : ℕ) → length (encode (Of.Bare k)) ≡ 1
+unfolding encode kindOf immediateOf refsOf
+bare-size k = refl
+
+open-size : (a : ℕ) → length (encode (Of.One 100 a)) ≡ 3
+unfolding encode kindOf immediateOf refsOf
+open-size a = refl
+
+last-bytes : (es : List Entry) (e : Entry) → stripBytes (es ++ (e ∷ [])) ≡ stripBytes es ++ encode e
+unfolding stripBytes
+last-bytes es e = bytes-append es (e ∷ []) ∙ ap (λ (x : List ℕ). stripBytes es ++ x) (append-nil (encode e))
+
+end-bytes : stripBytes (Of.Bare 255 ∷ []) ≡ encode (Of.Bare 255)
+unfolding stripBytes
+end-bytes = append-nil (encode (Of.Bare 255))
+
+module _ (k : ℕ) (i : Insn) (l : List ℕ) where
+  g : Built
+  g = build (p (guard i) (guardNot i)) [] 0
+
+  arm : ℕ → List Entry
+  arm n = build (armOf k i) [] n .entries
+
+  at-start : Holds l (start l) []
+  at-start = record { list = refl; at = refl }
+
+  -- the arm, behind bytes that were written
+  arm-fit : (b : Buffer) (xs : List ℕ) → Holds l b xs → length xs ≤ 8 → b .next ≤ 2
+      → Fit b (emits (armOf k i) [] b) (build (armOf k i) [] (b .next) .entries) (build (armOf k i) [] (b .next) .result) (build (armOf k i) [] (b .next) .next) (last (armOf k i) (markOf b))
+  arm-fit b xs h small few =
+      fits (armOf k i) [] b (omega (arith, h .at, roomy (armOf k i) [] (b .next), arm-room k i))
+      (omega (arith, next-bound (armOf k i) [] (b .next), arm-bound k i))
+
+  never : Holding l (wrote (Of.Bare 255) (start l)) (encode (Of.Bare 255)) (λ m. m)
+  unfolding wrote
+  never = record { holds = record { list = refl; at = omega (arith, bare-size 255) }; short = omega (arith, bare-size 255); mark = raise-none }
+
+  plain : Holding l (wrote (Of.Bare 255) (emits (armOf k i) [] (start l) .buffer)) (stripBytes (arm 0) ++ encode (Of.Bare 255)) (uses (armOf k i))
+  unfolding arm
+  plain =
+      let f = arm-fit (start l) [] at-start (omega arith) (omega arith) in
+      let xs = stripBytes (build (armOf k i) [] 0 .entries) in
+      let z : length xs ≤ 245 = omega (arith, roomy (armOf k i) [] 0, arm-room k i) in
+      record {
+        holds = hold-entry l xs _ (Of.Bare 255) (hold-fit l [] (start l) _ _ _ _ _ at-start f) (omega (arith, bare-size 255));
+        short = omega (arith, length-append xs (encode (Of.Bare 255)), bare-size 255);
+        mark = λ m. rw (wrote-slot, wrote-need, f .slot, f .need) (sym (one-used (armOf k i) m (arm-marks k i)));
+      }
+
+  -- behind the guard and its open
+  opened : (m : Value) → Holds l (m .buffer) (stripBytes (g .entries)) → m .number ≡ g .result → m .buffer .next ≡ g .next → markOf (m .buffer) ≡ clear
+      → Holding l (wrote (Of.Bare 255) (wrote (Of.Bare 101) (emits (armOf k i) [] (wrote (Of.One 100 (m .number)) (m .buffer)) .buffer)))
+      ((((stripBytes (g .entries) ++ encode (Of.One 100 (g .result))) ++ stripBytes (arm (g .next))) ++ encode (Of.Bare 101)) ++ encode (Of.Bare 255)) (uses (armOf k i))
+  unfolding g arm
+  opened m h er en em =
+      let gr : length (stripBytes (g .entries)) ≤ 5 = omega (arith, roomy (p (guard i) (guardNot i)) [] 0, guard-room (guard i) (guardNot i)) in
+      let gb : g .next ≤ 2 = omega (arith, next-bound (p (guard i) (guardNot i)) [] 0, guard-bound (guard i) (guardNot i)) in
+      let e = Of.One 100 (m .number) in
+      let o = wrote e (m .buffer) in
+      let x0 = stripBytes (g .entries) ++ encode e in
+      let ho = hold-entry l (stripBytes (g .entries)) (m .buffer) e h (omega (arith, open-size (m .number))) in
+      let on : o .next ≡ g .next = wrote-next e (m .buffer) ∙ en in
+      let om : markOf o ≡ clear = rw (wrote-slot, wrote-need) em in
+      let lo : length x0 ≤ 8 = omega (arith, length-append (stripBytes (g .entries)) (encode e), open-size (m .number)) in
+      let f = arm-fit o x0 ho lo (omega arith) in
+      let x1 = stripBytes (build (armOf k i) [] (o .next) .entries) in
+      let z : length x1 ≤ 245 = omega (arith, roomy (armOf k i) [] (o .next), arm-room k i) in
+      let hf = hold-fit l x0 o _ _ _ _ _ ho f in
+      let l1 : length (x0 ++ x1) ≤ 253 = omega (arith, length-append x0 x1) in
+      let hc = hold-entry l (x0 ++ x1) _ (Of.Bare 101) hf (omega (arith, bare-size 101)) in
+      let x2 = (x0 ++ x1) ++ encode (Of.Bare 101) in
+      let l2 : length x2 ≤ 254 = omega (arith, length-append (x0 ++ x1) (encode (Of.Bare 101)), bare-size 101) in
+      let he = hold-entry l x2 _ (Of.Bare 255) hc (omega (arith, bare-size 255)) in
+      let M = emits (armOf k i) [] o .buffer in
+      let sl = wrote-slot (Of.Bare 255) (wrote (Of.Bare 101) M) ∙ wrote-slot (Of.Bare 101) M ∙ f .slot ∙ ap (λ (w : Mark). last (armOf k i) w .slot) om in
+      let ne = wrote-need (Of.Bare 255) (wrote (Of.Bare 101) M) ∙ wrote-need (Of.Bare 101) M ∙ f .need ∙ ap (λ (w : Mark). last (armOf k i) w .need) om in
+      rw (← er, ← on)
+      (record {
+        holds = he;
+        short = omega (arith, length-append x2 (encode (Of.Bare 255)), bare-size 255);
+        mark = λ m. rw (sl, ne) (sym (one-used (armOf k i) m (arm-marks k i)));
+      })
+
+  inBlock : Holding l
+      (wrote (Of.Bare 255) (wrote (Of.Bare 101) (emits (armOf k i) [] (wrote (Of.One 100 (emits (p (guard i) (guardNot i)) [] (start l) .number)) (emits (p (guard i) (guardNot i)) [] (start l) .buffer)) .buffer)))
+      ((((stripBytes (g .entries) ++ encode (Of.One 100 (g .result))) ++ stripBytes (arm (g .next))) ++ encode (Of.Bare 101)) ++ encode (Of.Bare 255)) (uses (armOf k i))
+  unfolding g
+  inBlock =
+      let c = p (guard i) (guardNot i) in
+      let f = fits c [] (start l) (omega (arith, roomy c [] 0, guard-room (guard i) (guardNot i))) (omega (arith, next-bound c [] 0, guard-bound (guard i) (guardNot i))) in
+      let e : markOf (emits c [] (start l) .buffer) ≡ last c clear = rw (f .slot, f .need) in
+      opened (emits c [] (start l)) (hold-fit l [] (start l) _ _ _ _ _ at-start f) (f .number) (f .next) (e ∙ none-used c [] clear (guard-marks (guard i) (guardNot i)) .1)
+
+  block-bytes : stripBytes (block g (armOf k i) ++ (Of.Bare 255 ∷ [])) ≡ (((stripBytes (g .entries) ++ encode (Of.One 100 (g .result))) ++ stripBytes (arm (g .next))) ++ encode (Of.Bare 101)) ++ encode (Of.Bare 255)
+  unfolding arm stripBytes
+  block-bytes =
+      let o : Entry = Of.One 100 (g .result) in
+      let es = build (armOf k i) [] (g .next) .entries in
+      last-bytes (block g (armOf k i)) (Of.Bare 255)
+      ∙ ap (λ (x : List ℕ). x ++ encode (Of.Bare 255))
+      (bytes-append (g .entries) (o ∷ (es ++ (Of.Bare 101 ∷ [])))
+      ∙ ap (λ (x : List ℕ). stripBytes (g .entries) ++ (encode o ++ x)) (last-bytes es (Of.Bare 101))
+      ∙ sym (append-assoc (stripBytes (g .entries)) (encode o) (stripBytes es ++ encode (Of.Bare 101)))
+      ∙ sym (append-assoc (stripBytes (g .entries) ++ encode o) (stripBytes es) (encode (Of.Bare 101))))
+
+  pub whole : Holding l (writes k i (start l)) (strip k i) (marked k i)
+  unfolding writes strip entriesOf marked guarded g arm
+  whole = go (eqb (guard i) 7) (guardNot i)
+    where
+      go : (x n : Bool) → Holding l
+          (cond x (cond n (wrote (Of.Bare 255) (start l)) (wrote (Of.Bare 255) (emits (armOf k i) [] (start l) .buffer)))
+          (wrote (Of.Bare 255) (wrote (Of.Bare 101) (emits (armOf k i) [] (wrote (Of.One 100 (emits (p (guard i) (guardNot i)) [] (start l) .number)) (emits (p (guard i) (guardNot i)) [] (start l) .buffer)) .buffer))))
+          (stripBytes (cond x (cond n [] (build (armOf k i) [] 0 .entries)) (block (build (p (guard i) (guardNot i)) [] 0) (armOf k i)) ++ (Of.Bare 255 ∷ [])))
+          (λ m. cond (x && n) m (uses (armOf k i) m))
+      go true true = rw end-bytes never
+      go true false = rw (last-bytes (build (armOf k i) [] 0 .entries) (Of.Bare 255)) plain
+      go false n = rw block-bytes inBlock
+
+-- ---- the room
+
+pub front-suc : (d s : List ℕ) (j : ℕ) → j < length d → j < length s → replace (paste d 0 s j) j (getD s j 0) ≡ paste d 0 s (suc j)
+front-suc d s j h k =
+    let e : 0 + j ≡ j = omega arith in
+    ap (λ (i : ℕ). replace (paste d 0 s j) i (getD s j 0)) (sym e) ∙ paste-suc d 0 s j 0 (omega arith) k
+
+front : (xs l out : List ℕ) → length xs ≤ length l → paste out 0 (sets l 0 xs) (length xs) ≡ xs ++ drop (length xs) out
+front xs l out h = rw (sets-eq xs l 0 (omega arith), take-append-seam) (let e : 0 + length xs ≡ length xs = omega arith in rw e)
+
+-- what the buffer and the position hold behind a whole strip
+pub record Done (k : ℕ) (i : Insn) (l l′ : List ℕ) (q : Pos) : Type 0 where
+  pub list : l′ ≡ sets l 0 (strip k i)
+  pub at : q .at ≡ length (strip k i)
+  pub short : length (strip k i) ≤ 255
+  pub mark : (m : List ℕ) → raise m (q .slot) (q .words * 4) ≡ marked k i m
+
+pub done : (k : ℕ) (i : Insn) (l l′ : List ℕ) (q : Pos) → view l′ q ≡ writes k i (view l (record { words = 0; at = 0; values = 0; slot = 0 })) → Done k i l l′ q
+unfolding view
+done k i l l′ q e =
+    let w : Holding l (view l′ q) (strip k i) (marked k i) = rw e (whole k i l) in
+    record { list = w .holds .list; at = w .holds .at; short = w .short; mark = w .mark }
+
+pub no-room : (k : ℕ) (i : Insn) (m out : List ℕ) (n : ℕ) → n ≡ length (strip k i) → length out < n → refused NoRoom m out ≡ fitted k i m out
+unfolding fitted
+no-room k i m out n e h = rw (lt-leb (length (strip k i)) (length out) (omega arith))
+
+pub accepts : (k : ℕ) (i : Insn) (m out l l′ : List ℕ) (q : Pos) → Done k i l l′ q → length l ≡ 264 → q .at ≤ length out
+    → record { outcome = Written (q .at); marks = raise m (q .slot) (q .words * 4); out = paste out 0 l′ (q .at) } ≡ fitted k i m out
+unfolding fitted
+accepts k i m out l l′ q d e h =
+    let s = d .short in
+    let b : length (strip k i) ≤ length out = rw (d .at) at h in
+    rw (le-leb (length (strip k i)) (length out) b, d .list, d .at, d .mark m, front (strip k i) l out (omega arith))

@@ -1,0 +1,12 @@
+use Rattle.translation.specs.Arms.{bfiOf}
+use Rattle.translation.proofs.Follow.{by-call, by-ret}
+use Rattle.translation.proofs.arm.bfi_of.Statement.{statement}
+use Rattle.translation.proofs.arm.bfi_of.Tie as tie
+
+pub bfi-of-spec : {M : Type 1} → statement M
+unfolding bfiOf
+bfi-of-spec =
+    tie.close
+    (tie.spec
+    (λ c κs. tt) (λ c κs. tt) (λ c κs. tt)
+    (λ c. let c1 = c .before in let c3 = c1 .before .before in by-call (c3 .field-of .ensures) (rw (← c1 .rd .ensures) (by-call (c .set .ensures) by-ret))))

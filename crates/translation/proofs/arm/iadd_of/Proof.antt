@@ -1,0 +1,12 @@
+use Rattle.translation.specs.Arms.{iaddOf}
+use Rattle.translation.proofs.Follow.{by-call, by-ret}
+use Rattle.translation.proofs.arm.iadd_of.Statement.{statement}
+use Rattle.translation.proofs.arm.iadd_of.Tie as tie
+
+pub iadd-of-spec : {M : Type 1} → statement M
+unfolding iaddOf
+iadd-of-spec =
+    tie.close
+    (tie.spec
+    (λ c κs. tt) (λ c κs. tt) (λ c κs. tt) (λ c κs. tt) (λ c κs. tt) (λ c κs. tt)
+    (λ c. let c2 = c .before .before in let c4 = c2 .before .before in let c6 = c4 .before .before in let c8 = c6 .before .before in let c10 = c8 .before .before in rw (← c10 .either .ensures) (by-call (c8 .prepared .ensures) (by-call (c6 .prepared2 .ensures) (by-call (c4 .iadd-sum .ensures) (by-call (c2 .saturate-add .ensures) (by-call (c .set .ensures) by-ret)))))))

@@ -1,0 +1,12 @@
+use Rattle.translation.specs.Arms.{icmp}
+use Rattle.translation.proofs.Follow.{by-call, by-ret}
+use Rattle.translation.proofs.arm.icmp.Statement.{statement}
+use Rattle.translation.proofs.arm.icmp.Tie as tie
+
+pub icmp-spec : {M : Type 1} → statement M
+unfolding icmp
+icmp-spec =
+    tie.close
+    (tie.spec
+    (λ c κs. tt) (λ c κs. tt) (λ c κs. tt)
+    (λ c. let c2 = c .before .before in let c3 = c2 .before in rw (← c3 .ra .ensures) (by-call (c2 .r .ensures) (by-call (c .icmp-bc .ensures) by-ret))))

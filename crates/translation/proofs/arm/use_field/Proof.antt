@@ -1,0 +1,13 @@
+use Rattle.translation.specs.Arms.{useField}
+use Rattle.translation.proofs.Follow.{by-no, by-yes}
+use Rattle.translation.proofs.arm.use_field.Statement.{statement}
+use Rattle.translation.proofs.arm.use_field.Tie as tie
+
+pub use-field-spec : {M : Type 1} → statement M
+unfolding useField
+use-field-spec =
+    tie.close
+    (tie.spec
+    (λ c κs. tt) (λ c κs. tt)
+    (λ c. by-yes (c .before .before .if1 .taken) (c .insert-field .ensures))
+    (λ c. by-no (c .before .before .if1 .left) (c .extract-field .ensures)))

@@ -1,0 +1,12 @@
+use Rattle.translation.specs.Arms.{xmad}
+use Rattle.translation.proofs.Follow.{by-call, by-ret}
+use Rattle.translation.proofs.arm.xmad.Statement.{statement}
+use Rattle.translation.proofs.arm.xmad.Tie as tie
+
+pub xmad-spec : {M : Type 1} → statement M
+unfolding xmad
+xmad-spec =
+    tie.close
+    (tie.spec
+    (λ c κs. tt) (λ c κs. tt) (λ c κs. tt)
+    (λ c. let c2 = c .before .before in let c3 = c2 .before in rw (← c3 .ra .ensures) (by-call (c2 .r .ensures) (by-call (c .xmad-fetch .ensures) by-ret))))

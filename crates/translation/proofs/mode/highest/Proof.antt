@@ -1,0 +1,16 @@
+use borrow.Author.Tests.{eq-eqb, ne-eqb}
+use Rattle.translation.specs.Helpers.{highest}
+use Rattle.translation.proofs.mode.highest.Statement.{statement}
+use Rattle.translation.proofs.mode.highest.Tie as tie
+
+pub highest-spec : {M : Type 1} → statement M
+unfolding highest
+highest-spec =
+    tie.close
+    (tie.spec
+    (λ c κs. tt)
+    (λ c. rw (eq-eqb _ _ (c .before .if1 .taken)) (c .pick .ensures))
+    (λ c κs. tt)
+    (λ c. rw (ne-eqb _ _ (c .before .before .if1 .left), eq-eqb _ _ (c .before .if2 .taken)) (c .pick2 .ensures))
+    (λ c κs. tt)
+    (λ c. rw (ne-eqb _ _ (c .before .before .if1 .left), ne-eqb _ _ (c .before .if2 .left)) (c .pick3 .ensures)))

@@ -1,0 +1,21 @@
+use native.Mathlib.Numerals.{towards-suc}
+use Rattle.strip.specs.declared.reader.Entry.the-variants as Of
+use Rattle.strip.specs.Entry.{kindOf, refsOf, immediateOf, encode}
+use Rattle.translation.proofs.Write.{makes, low, high}
+use borrow.Author.Needs.{needs}
+use Rattle.translation.proofs.writer.one.Statement.{statement}
+use Rattle.translation.proofs.writer.one.Tie as tie
+
+pub one-spec : {M : Type 1} → statement M
+unfolding encode kindOf immediateOf refsOf
+one-spec =
+    tie.close
+    (tie.spec
+    (λ c. search needs)
+    (λ c. search needs)
+    (λ c. search needs)
+    (λ c. search needs)
+    (λ c. search needs)
+    (λ c. search needs)
+    (λ c κs. search needs)
+    (λ c. makes _ (c .before .before .args .p) (Of.One (c .before .before .args .k) (c .before .before .args .a)) (simp (low (c .before .before .args .a) (c .before .before .fits .a .fits), high (c .before .before .args .a) (c .before .before .fits .a .fits), towards-suc)) (c .next .ensures)))

@@ -1,0 +1,9 @@
+pub mod Insn
+pub mod Code
+pub mod Notation
+pub mod Helpers
+pub mod Arms
+pub mod Marks
+pub mod Strip
+pub mod Emit
+pub mod Whole

@@ -1,0 +1,102 @@
+-- From a record to its strip and its answer (01, 'Record', 'Strip' and 'Who can cause a refusal'): this is the definition of the translation.
+use mathlib.Core.Bool.{Bool, true, false, cond, _&&_}
+use mathlib.Core.List.{List, [], _∷_, _++_}
+use Prim.Native.Nat.{ℕ, _+_, _*_}
+use lib.Dec.{eqb, ltb, leb}
+use lib.ListN.{length, getD, drop}
+use Rattle.strip.specs.declared.reader.Entry.{Entry}
+use Rattle.strip.specs.declared.reader.Entry.the-variants as Of
+use Rattle.strip.specs.Shape.{stripBytes}
+use Rattle.translation.specs.Insn.{Insn, bits, bit}
+use Rattle.translation.specs.Code.{Code, Built, build}
+use Rattle.translation.specs.Helpers.{p}
+use Rattle.translation.specs.Arms.{armOf}
+use Rattle.translation.specs.Marks.{uses}
+use Rattle.translation.specs.declared.answer.Outcome.{Outcome}
+use Rattle.translation.specs.declared.answer.Outcome.the-variants.{Written, Refused}
+use Rattle.translation.specs.declared.answer.Refusal.{Refusal}
+use Rattle.translation.specs.declared.answer.Refusal.the-variants.{BadLength, UnknownKind, UnknownForm, LaneMov, ByteThree, NoRoom}
+
+-- 01's number of a refusal
+unfoldable pub refusalNumber : Refusal → ℕ
+refusalNumber BadLength = 1
+refusalNumber UnknownKind = 2
+refusalNumber UnknownForm = 3
+refusalNumber LaneMov = 4
+refusalNumber ByteThree = 5
+refusalNumber NoRoom = 6
+
+-- the guard: a predicate, negated or not
+abbrev pub guard : Insn → ℕ
+guard i = bits i 16 3
+
+abbrev pub guardNot : Insn → Bool
+guardNot i = bit i 19
+
+-- `guarded` around a body: nothing of a guard that always holds, nothing at all where it never does, else a block
+abbrev pub block : Built → Code → List Entry
+block g c = g .entries ++ (Of.One 100 (g .result) ∷ (build c [] (g .next) .entries ++ (Of.Bare 101 ∷ [])))
+
+unfoldable pub guarded : Insn → Code → List Entry
+guarded i c = cond (eqb (guard i) 7) (cond (guardNot i) [] (build c [] 0 .entries)) (block (build (p (guard i) (guardNot i)) [] 0) c)
+
+-- the entries of kind k's strip, and its bytes
+unfoldable pub entriesOf : ℕ → Insn → List Entry
+entriesOf k i = guarded i (armOf k i) ++ (Of.Bare 255 ∷ [])
+
+unfoldable pub strip : ℕ → Insn → List ℕ
+strip k i = stripBytes (entriesOf k i)
+
+-- the marks behind it: a guard that never holds raises none
+unfoldable pub marked : ℕ → Insn → List ℕ → List ℕ
+marked k i m = cond (eqb (guard i) 7 && guardNot i) m (uses (armOf k i) m)
+
+-- ---- the record: 18 bytes, little-endian
+
+abbrev pub wordAt : List ℕ → ℕ → ℕ
+wordAt l n =
+    getD l n 0 + getD l (n + 1) 0 * 256 + getD l (n + 2) 0 * 65536 + getD l (n + 3) 0 * 16777216 + getD l (n + 4) 0 * 4294967296
+    + getD l (n + 5) 0 * 1099511627776 + getD l (n + 6) 0 * 281474976710656 + getD l (n + 7) 0 * 72057594037927936
+
+abbrev pub insnOf : List ℕ → Insn
+insnOf l = record { form = getD l 1 0; value = wordAt l 2; word = wordAt l 10 }
+
+-- the kinds of 01
+unfoldable pub known : ℕ → Bool
+known k = leb 1 k && leb k 30
+
+-- mov with the opcode's value 0xf0c8 << 48
+unfoldable pub laneMov : ℕ → Insn → Bool
+laneMov k i = eqb k 1 && eqb (i .value) 17350117564444835840
+
+-- i2i of a half, from byte 3 on
+unfoldable pub byteThree : ℕ → Insn → Bool
+byteThree k i = eqb k 24 && (eqb (bits i 10 2) 1 && eqb (bits i 41 2) 3)
+
+-- ---- the answer: the strip's length or a refusal, the marks, the room
+
+pub record Answer : Type 0 where
+  pub outcome : Outcome
+  pub marks : List ℕ
+  pub out : List ℕ
+
+abbrev pub refused : Refusal → List ℕ → List ℕ → Answer
+refused r m out = record { outcome = Refused r; marks = m; out = out }
+
+unfoldable pub fitted : ℕ → Insn → List ℕ → List ℕ → Answer
+fitted k i m out =
+    cond (leb (length (strip k i)) (length out))
+    (record { outcome = Written (length (strip k i)); marks = marked k i m; out = strip k i ++ drop (length (strip k i)) out })
+    (refused NoRoom m out)
+
+-- the first refusal that holds
+unfoldable pub admitted : ℕ → Insn → List ℕ → List ℕ → Answer
+admitted k i m out =
+    cond (known k)
+    (cond (ltb 2 (i .form)) (refused UnknownForm m out)
+    (cond (laneMov k i) (refused LaneMov m out)
+    (cond (byteThree k i) (refused ByteThree m out) (fitted k i m out))))
+    (refused UnknownKind m out)
+
+unfoldable pub translation : List ℕ → List ℕ → List ℕ → Answer
+translation l m out = cond (eqb (length l) 18) (admitted (getD l 0 0) (insnOf l) m out) (refused BadLength m out)

@@ -1,0 +1,24 @@
+-- What the code does for a whole strip, and what contracts say of it. `proofs/Written.antt` has that it is the definition.
+use mathlib.Core.Bool.{cond}
+use mathlib.Core.List.{List, []}
+use Prim.Native.Nat.{ℕ}
+use lib.Dec.{eqb}
+use Rattle.strip.specs.declared.reader.Entry.the-variants as Of
+use Rattle.translation.specs.Insn.{Insn}
+use Rattle.translation.specs.Helpers.{p}
+use Rattle.translation.specs.Arms.{armOf}
+use Rattle.translation.specs.Emit.{Buffer, Value, wrote, emits}
+use Rattle.translation.specs.Strip.{Answer, guard, guardNot}
+use Rattle.translation.specs.declared.answer.Translated as D
+
+-- behind the arm: the end; in a block, the close before it
+unfoldable pub writes : ℕ → Insn → Buffer → Buffer
+writes k i b =
+    cond (eqb (guard i) 7) (cond (guardNot i) (wrote (Of.Bare 255) b) (wrote (Of.Bare 255) (emits (armOf k i) [] b .buffer)))
+    (wrote (Of.Bare 255)
+    (wrote (Of.Bare 101)
+    (emits (armOf k i) [] (wrote (Of.One 100 (emits (p (guard i) (guardNot i)) [] b .number)) (emits (p (guard i) (guardNot i)) [] b .buffer)) .buffer)))
+
+-- what the entry point hands back and leaves behind
+abbrev pub answered : D.Translated → List ℕ → Answer
+answered t out = record { outcome = t .outcome; marks = t .«cbuf_used»; out = out }

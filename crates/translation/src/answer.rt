@@ -1,0 +1,297 @@
+// From a record to its strip: the entry point.
+ghost use mathlib.Core.Path.{_≡_};
+ghost use mathlib.Core.List.{[]};
+ghost use Prim.Native.Nat.{_+_, _*_, _<_, _≤_, max};
+ghost use lib.ListN.{length};
+ghost use lib.Seq.{paste};
+ghost use Rattle.translation.specs.Arms.{armOf};
+ghost use Rattle.translation.specs.Emit.{view, seen, Does};
+ghost use Rattle.translation.specs.Marks.{raise};
+ghost use Rattle.translation.specs.Strip.{guard, known, laneMov, byteThree, wordAt, fitted, admitted, translation};
+ghost use Rattle.translation.specs.Whole.{writes, answered};
+use crate::arm::bfe;
+use crate::arm::bfi;
+use crate::arm::csetp;
+use crate::arm::flo;
+use crate::arm::i2i;
+use crate::arm::iadd;
+use crate::arm::iadd3;
+use crate::arm::iadd32i;
+use crate::arm::icmp;
+use crate::arm::icompare;
+use crate::arm::imnmx;
+use crate::arm::iscadd;
+use crate::arm::lea;
+use crate::arm::lop;
+use crate::arm::lop3_arm;
+use crate::arm::lop32i;
+use crate::arm::mov;
+use crate::arm::mov32i;
+use crate::arm::p2r;
+use crate::arm::pcombine;
+use crate::arm::popc;
+use crate::arm::r2p;
+use crate::arm::sel;
+use crate::arm::shf;
+use crate::arm::shl;
+use crate::arm::shr;
+use crate::arm::vmnmx;
+use crate::arm::xmad;
+use crate::helper::p;
+use crate::insn::Insn;
+use crate::insn::bit;
+use crate::insn::bits;
+use crate::mode::both;
+use crate::writer::Made;
+use crate::writer::Pos;
+use crate::writer::bare;
+use crate::writer::open;
+
+// Why a record is refused. 01's numbers: 1 to 6 in this order.
+pub enum Refusal {
+    // The record is not 18 bytes.
+    BadLength,
+    // The kind is not one of the thirty.
+    UnknownKind,
+    // The form is above 2.
+    UnknownForm,
+    // mov with the lane mask of opcode value 0xf0c8 << 48.
+    LaneMov,
+    // i2i of a half, from byte 3 on.
+    ByteThree,
+    // The room is shorter than the strip.
+    NoRoom,
+}
+
+// The strip's length, or the refusal.
+pub enum Outcome {
+    Written(usize),
+    Refused(Refusal),
+}
+
+// With the use marks: raised, or as they were where the record is refused.
+pub struct Translated {
+    pub outcome: Outcome,
+    pub cbuf_used: [u32; 32],
+}
+
+// The arm of a kind.
+fn op(buf: &mut [u8; 264], at: Pos, kind: u8, i: Insn) -> Made
+    ensures { λ m. ⌜ Does (view (now (buf .entry)) at) (seen (now (buf .exit)) m) (armOf kind i) [] ⌝ }
+{
+    match kind {
+        1 => mov(buf, at, i),
+        2 => mov32i(buf, at, i),
+        3 => sel(buf, at, i),
+        4 => csetp(buf, at, i),
+        5 => icompare(buf, at, true, i),
+        6 => icompare(buf, at, false, i),
+        7 => pcombine(buf, at, true, i),
+        8 => pcombine(buf, at, false, i),
+        9 => iadd(buf, at, i),
+        10 => iadd32i(buf, at, i),
+        11 => iadd3(buf, at, i),
+        12 => iscadd(buf, at, i),
+        13 => xmad(buf, at, i),
+        14 => imnmx(buf, at, i),
+        15 => icmp(buf, at, i),
+        16 => lop(buf, at, i),
+        17 => lop32i(buf, at, i),
+        18 => lop3_arm(buf, at, i),
+        19 => shl(buf, at, i),
+        20 => shr(buf, at, i),
+        21 => bfe(buf, at, i),
+        22 => bfi(buf, at, i),
+        23 => vmnmx(buf, at, i),
+        24 => i2i(buf, at, i),
+        25 => flo(buf, at, i),
+        26 => popc(buf, at, i),
+        27 => r2p(buf, at, i),
+        28 => p2r(buf, at, i),
+        29 => shf(buf, at, i),
+        _ => lea(buf, at, i),
+    }
+}
+
+fn guard(i: Insn) -> u8
+    ensures { λ r. ⌜ r ≡ guard i ⌝ }
+{
+    bits(i, 16, 3) as u8
+}
+
+// The whole strip: guarded, and the end.
+fn guarded(buf: &mut [u8; 264], at: Pos, kind: u8, i: Insn) -> Pos
+    ensures { λ r. ⌜ view (now (buf .exit)) r ≡ writes kind i (view (now (buf .entry)) at) ⌝ }
+{
+    let g = guard(i);
+    let not = bit(i, 19);
+    if g == 7 {
+        if not {
+            bare(buf, at, 255)
+        } else {
+            let m = op(buf, at, kind, i);
+            bare(buf, m.pos, 255)
+        }
+    } else {
+        let c = p(buf, at, g, not);
+        let q = open(buf, c.pos, c.value);
+        let m = op(buf, q, kind, i);
+        let q = bare(buf, m.pos, 101);
+        bare(buf, q, 255)
+    }
+}
+
+fn larger(a: u32, b: u32) -> u32
+    ensures { λ r. ⌜ r ≡ max a b ⌝ }
+{
+    if a < b { b } else { a }
+}
+
+// A mark raised to so many bytes; a slot that is none raises nothing.
+fn raise(marks: [u32; 32], slot: u8, need: u32) -> [u32; 32]
+    ensures { λ r. ⌜ r ≡ raise marks slot need ⌝ }
+{
+    let k = slot as usize;
+    if 32 <= k {
+        return marks;
+    }
+    let mut out = marks;
+    let used = out[k];
+    out[k] = larger(used, need);
+    out
+}
+
+// The first n bytes of one list, to the front of another.
+fn copy(from: &[u8], out: &mut [u8], n: usize)
+    requires { ⌜ (n ≤ length (now from)) × (n ≤ length (now out)) ⌝ }
+    ensures { λ _. ⌜ now (out .exit) ≡ paste (now (out .entry)) 0 (now (from .entry)) n ⌝ }
+{
+    let mut j: usize = 0;
+    while j < n {
+        out[j] = from[j];
+        j += 1;
+    }
+}
+
+fn finish(kind: u8, i: Insn, marks: [u32; 32], out: &mut [u8]) -> Translated
+    ensures { λ r. ⌜ answered r (now (out .exit)) ≡ fitted kind i marks (now (out .entry)) ⌝ }
+{
+    let mut buf = [0u8; 264];
+    let start = Pos {
+        words: 0,
+        at: 0,
+        values: 0,
+        slot: 0,
+    };
+    let q = guarded(&mut buf, start, kind, i);
+    let n = q.at as usize;
+    if out.len() < n {
+        return Translated {
+            outcome: Outcome::Refused(Refusal::NoRoom),
+            cbuf_used: marks,
+        };
+    }
+    copy(&buf, out, n);
+    let raised = raise(marks, q.slot, q.words as u32 * 4);
+    Translated {
+        outcome: Outcome::Written(n),
+        cbuf_used: raised,
+    }
+}
+
+fn known(k: u8) -> bool
+    ensures { λ r. ⌜ r ≡ known k ⌝ }
+{
+    both(1 <= k, k <= 30)
+}
+
+fn lane_mov(k: u8, i: Insn) -> bool
+    ensures { λ r. ⌜ r ≡ laneMov k i ⌝ }
+{
+    both(k == 1, i.value == 0xf0c8_0000_0000_0000)
+}
+
+fn byte_three(k: u8, i: Insn) -> bool
+    ensures { λ r. ⌜ r ≡ byteThree k i ⌝ }
+{
+    both(k == 24, both(bits(i, 10, 2) == 1, bits(i, 41, 2) == 3))
+}
+
+fn refused(why: Refusal, marks: [u32; 32]) -> Translated
+    ensures { λ r. ⌜ r ≡ record { outcome = Outcome.Refused why; «cbuf_used» = marks } ⌝ }
+{
+    Translated {
+        outcome: Outcome::Refused(why),
+        cbuf_used: marks,
+    }
+}
+
+// What 01 admits, in its order of refusals.
+fn admit(kind: u8, i: Insn, marks: [u32; 32], out: &mut [u8]) -> Translated
+    ensures { λ r. ⌜ answered r (now (out .exit)) ≡ admitted kind i marks (now (out .entry)) ⌝ }
+{
+    if !known(kind) {
+        return refused(Refusal::UnknownKind, marks);
+    }
+    if 2 < i.form {
+        return refused(Refusal::UnknownForm, marks);
+    }
+    if lane_mov(kind, i) {
+        return refused(Refusal::LaneMov, marks);
+    }
+    if byte_three(kind, i) {
+        return refused(Refusal::ByteThree, marks);
+    }
+    finish(kind, i, marks, out)
+}
+
+fn wide(x: u8) -> u64
+    ensures { λ r. ⌜ (r ≡ x) × (r < 256) ⌝ }
+{
+    x as u64
+}
+
+fn word_at(s: &[u8], at: usize) -> u64
+    requires { ⌜ at + 8 ≤ length (now s) ⌝ }
+    ensures { λ r. ⌜ r ≡ wordAt (now (s .entry)) at ⌝ }
+{
+    let a = wide(s[at]);
+    let b = wide(s[at + 1]);
+    let c = wide(s[at + 2]);
+    let d = wide(s[at + 3]);
+    let e = wide(s[at + 4]);
+    let f = wide(s[at + 5]);
+    let g = wide(s[at + 6]);
+    let h = wide(s[at + 7]);
+    a
+        + b * 0x100
+        + c * 0x1_0000
+        + d * 0x100_0000
+        + e * 0x1_0000_0000
+        + f * 0x100_0000_0000
+        + g * 0x1_0000_0000_0000
+        + h * 0x100_0000_0000_0000
+}
+
+// A record's strip at the front of out, and nothing else of it; or a refusal, which leaves the marks and out as they are.
+pub fn translate(bytes: &[u8], marks: [u32; 32], out: &mut [u8]) -> Translated
+    ensures { λ r. ⌜ answered r (now (out .exit)) ≡ translation (now (bytes .entry)) marks (now (out .entry)) ⌝ }
+{
+    if bytes.len() != 18 {
+        return refused(Refusal::BadLength, marks);
+    }
+    let kind = bytes[0];
+    let form = bytes[1];
+    let value = word_at(bytes, 2);
+    let word = word_at(bytes, 10);
+    admit(
+        kind,
+        Insn {
+            form: form,
+            value: value,
+            word: word,
+        },
+        marks,
+        out,
+    )
+}

@@ -1,0 +1,186 @@
+// Writing a strip: its bytes go into a lent buffer, and the position is handed on by value. Nothing is asked of a caller: positions and numbers are
+// counted modulo 256, and the buffer has 8 bytes beyond, which is the longest body. No strip comes near it.
+ghost use mathlib.Core.Path.{_≡_};
+ghost use mathlib.Core.List.{List};
+ghost use Prim.Native.Nat.{ℕ, _+_, _*_, _%_, _<_};
+ghost use Rattle.translation.specs.Emit.{view, seen, Makes, Writes, Raises};
+use strip::Entry;
+
+// Where the next byte goes, the next number, and the use mark raised: its slot and how many words of it (0: none).
+// With a value beside it this is 8 bytes, so that it is handed on and back in a register.
+pub struct Pos {
+    pub words: u16,
+    pub at: u8,
+    pub values: u8,
+    pub slot: u8,
+}
+
+// The position behind an entry or a helper, and the number of its value.
+pub struct Made {
+    pub pos: Pos,
+    pub value: u8,
+}
+
+// Behind n bytes.
+fn skip(p: Pos, n: u8) -> Pos
+    ensures { λ r. ⌜ r ≡ record { words = p .words; at = (p .at + n) % 256; values = p .values; slot = p .slot } ⌝ }
+{
+    Pos {
+        words: p.words,
+        at: ((p.at as u16 + n as u16) % 256) as u8,
+        values: p.values,
+        slot: p.slot,
+    }
+}
+
+// Behind n bytes that make a value.
+fn next(p: Pos, n: u8) -> Made
+    ensures { λ r. ⌜ r ≡ record { pos = record { words = p .words; at = (p .at + n) % 256; values = (p .values + 1) % 256; slot = p .slot }; value = p .values } ⌝ }
+{
+    Made {
+        pos: Pos {
+            words: p.words,
+            at: ((p.at as u16 + n as u16) % 256) as u8,
+            values: ((p.values as u16 + 1) % 256) as u8,
+            slot: p.slot,
+        },
+        value: p.values,
+    }
+}
+
+// A use mark: the word of a slot is used.
+pub fn mark(p: Pos, slot: u8, word: u16) -> Pos
+    requires { ⌜ word < 16384 ⌝ }
+    ensures { λ r. ⌜ ((l : List ℕ) → Raises (view l p) (view l r) slot (word * 4 + 4)) ⌝ }
+{
+    Pos {
+        words: word + 1,
+        at: p.at,
+        values: p.values,
+        slot: slot,
+    }
+}
+
+// A word constant.
+pub fn u(buf: &mut [u8; 264], p: Pos, w: u32) -> Made
+    ensures { λ r. ⌜ Makes (view (now (buf .entry)) p) (seen (now (buf .exit)) r) (Entry.Word w) ⌝ }
+{
+    let at = p.at as usize;
+    buf[at] = 1;
+    buf[at + 1] = (w % 256) as u8;
+    buf[at + 2] = (w / 256 % 256) as u8;
+    buf[at + 3] = (w / 65536 % 256) as u8;
+    buf[at + 4] = (w / 16777216) as u8;
+    next(p, 5)
+}
+
+// True, false.
+pub fn truth(buf: &mut [u8; 264], p: Pos, k: u8) -> Made
+    ensures { λ r. ⌜ Makes (view (now (buf .entry)) p) (seen (now (buf .exit)) r) (Entry.Bare k) ⌝ }
+{
+    let at = p.at as usize;
+    buf[at] = k;
+    next(p, 1)
+}
+
+// A load of a cell, a slot.
+pub fn cell(buf: &mut [u8; 264], p: Pos, k: u8, n: u8) -> Made
+    ensures { λ r. ⌜ Makes (view (now (buf .entry)) p) (seen (now (buf .exit)) r) (Entry.Cell k n) ⌝ }
+{
+    let at = p.at as usize;
+    buf[at] = k;
+    buf[at + 1] = n;
+    next(p, 2)
+}
+
+pub fn one(buf: &mut [u8; 264], p: Pos, k: u8, a: u8) -> Made
+    ensures { λ r. ⌜ Makes (view (now (buf .entry)) p) (seen (now (buf .exit)) r) (Entry.One k a) ⌝ }
+{
+    let at = p.at as usize;
+    buf[at] = k;
+    buf[at + 1] = a;
+    buf[at + 2] = 0;
+    next(p, 3)
+}
+
+pub fn two(buf: &mut [u8; 264], p: Pos, k: u8, a: u8, b: u8) -> Made
+    ensures { λ r. ⌜ Makes (view (now (buf .entry)) p) (seen (now (buf .exit)) r) (Entry.Two k a b) ⌝ }
+{
+    let at = p.at as usize;
+    buf[at] = k;
+    buf[at + 1] = a;
+    buf[at + 2] = 0;
+    buf[at + 3] = b;
+    buf[at + 4] = 0;
+    next(p, 5)
+}
+
+pub fn three(buf: &mut [u8; 264], p: Pos, k: u8, a: u8, b: u8, c: u8) -> Made
+    ensures { λ r. ⌜ Makes (view (now (buf .entry)) p) (seen (now (buf .exit)) r) (Entry.Three k a b c) ⌝ }
+{
+    let at = p.at as usize;
+    buf[at] = k;
+    buf[at + 1] = a;
+    buf[at + 2] = 0;
+    buf[at + 3] = b;
+    buf[at + 4] = 0;
+    buf[at + 5] = c;
+    buf[at + 6] = 0;
+    next(p, 7)
+}
+
+pub fn four(buf: &mut [u8; 264], p: Pos, k: u8, a: u8, b: u8, c: u8, d: u8) -> Made
+    ensures { λ r. ⌜ Makes (view (now (buf .entry)) p) (seen (now (buf .exit)) r) (Entry.Four k a b c d) ⌝ }
+{
+    let at = p.at as usize;
+    buf[at] = k;
+    buf[at + 1] = a;
+    buf[at + 2] = 0;
+    buf[at + 3] = b;
+    buf[at + 4] = 0;
+    buf[at + 5] = c;
+    buf[at + 6] = 0;
+    buf[at + 7] = d;
+    buf[at + 8] = 0;
+    next(p, 9)
+}
+
+pub fn store(buf: &mut [u8; 264], p: Pos, k: u8, n: u8, a: u8) -> Pos
+    ensures { λ r. ⌜ Writes (view (now (buf .entry)) p) (view (now (buf .exit)) r) (Entry.Store k n a) ⌝ }
+{
+    let at = p.at as usize;
+    buf[at] = k;
+    buf[at + 1] = n;
+    buf[at + 2] = a;
+    buf[at + 3] = 0;
+    skip(p, 4)
+}
+
+pub fn note(buf: &mut [u8; 264], p: Pos, n: u8) -> Pos
+    ensures { λ r. ⌜ Writes (view (now (buf .entry)) p) (view (now (buf .exit)) r) (Entry.Cell 110 n) ⌝ }
+{
+    let at = p.at as usize;
+    buf[at] = 110;
+    buf[at + 1] = n;
+    skip(p, 2)
+}
+
+// An open, by its truth.
+pub fn open(buf: &mut [u8; 264], p: Pos, a: u8) -> Pos
+    ensures { λ r. ⌜ Writes (view (now (buf .entry)) p) (view (now (buf .exit)) r) (Entry.One 100 a) ⌝ }
+{
+    let at = p.at as usize;
+    buf[at] = 100;
+    buf[at + 1] = a;
+    buf[at + 2] = 0;
+    skip(p, 3)
+}
+
+// A close, an end.
+pub fn bare(buf: &mut [u8; 264], p: Pos, k: u8) -> Pos
+    ensures { λ r. ⌜ Writes (view (now (buf .entry)) p) (view (now (buf .exit)) r) (Entry.Bare k) ⌝ }
+{
+    let at = p.at as usize;
+    buf[at] = k;
+    skip(p, 1)
+}
