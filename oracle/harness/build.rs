@@ -20,7 +20,10 @@ fn main() {
         println!("cargo:rustc-link-lib=static={name}");
         // Only a warning, so that `cargo check` works without the library.
         if fs::metadata(&library).is_err() {
-            println!("cargo:warning=there is no {}: build the static library first, or set {VARIABLE}", library.display());
+            println!(
+                "cargo:warning=there is no {}: build the static library first, or set {VARIABLE}",
+                library.display()
+            );
         }
     }
 }

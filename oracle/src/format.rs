@@ -119,11 +119,11 @@ impl Entry {
         out.push(self.kind);
         match layout.immediate {
             Immediate::None => {}
-            Immediate::Word => out.extend(self.immediate.to_le_bytes()),
+            Immediate::Word => out.extend_from_slice(&self.immediate.to_le_bytes()),
             Immediate::Byte(..) => out.push(self.immediate as u8),
         }
         for r in self.refs() {
-            out.extend(r.to_le_bytes());
+            out.extend_from_slice(&r.to_le_bytes());
         }
     }
 }

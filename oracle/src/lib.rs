@@ -11,6 +11,7 @@ pub mod evaluate;
 pub mod extraction;
 pub mod format;
 pub mod generate;
+pub mod lean;
 pub mod print;
 pub mod record;
 mod reference;

@@ -4,9 +4,8 @@
 ghost use Prim.Native.Nat.{_≤_};
 ghost use mathlib.Core.Path.{_≡_};
 ghost use lib.ListN.{length};
-ghost use Rattle.evaluation.specs.Machine.{numberOf, refusalNumber};
+ghost use Rattle.evaluation.specs.Machine.{numberOf};
 use evaluation::Outcome;
-use evaluation::Refusal;
 use evaluation::State;
 use libc::STDOUT_FILENO;
 
@@ -32,23 +31,13 @@ fn start() -> State {
     }
 }
 
-fn refusal_number(r: Refusal) -> u64
-    ensures { λ n. ⌜ n ≡ refusalNumber r ⌝ }
-{
-    match r {
-        Refusal::BadShape => 7,
-        Refusal::UndefinedValue => 8,
-        Refusal::NoConstant => 9,
-    }
-}
-
 // 01's number, 0 where the run was evaluated.
 fn number_of(o: Outcome) -> u64
     ensures { λ n. ⌜ n ≡ numberOf o ⌝ }
 {
     match o {
         Outcome::Done => 0,
-        Outcome::Refused(r) => refusal_number(r),
+        Outcome::Refused(r) => evaluation::refusal_number(r) as u64,
     }
 }
 

@@ -1,5 +1,5 @@
 -- A helper does what its code says: each law takes what the code does first, and then the rest.
-use mathlib.Core.Path.{_≡_, refl}
+use mathlib.Core.Path.{_≡_, refl, _∙_, sym}
 use mathlib.Core.Bool.{Bool, true, false}
 use mathlib.Core.List.{List, [], _∷_, _++_}
 use Prim.Native.Nat.{ℕ}
@@ -34,3 +34,7 @@ by-yes e q = record { is = rw e (q .is) }
 pub by-no : {b : Buffer} {n : Value} {t : Bool} {c d : Code} {rs : List ℕ} → t ≡ false → Does b n d rs → Does b n (ite t c d) rs
 unfolding emits
 by-no e q = record { is = rw e (q .is) }
+
+-- a test that was computed and then found true, or false
+pub told : {r x y : Bool} → r ≡ x → r ≡ y → x ≡ y
+told p q = sym p ∙ q

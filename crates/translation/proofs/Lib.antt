@@ -1,5 +1,10 @@
 pub mod Follow
 pub mod Write
 pub mod Fits
+pub mod Typed
+pub mod InRange
+pub mod Arms
 pub mod Marked
 pub mod Whole
+pub mod Ordered
+pub mod Shape

@@ -14,8 +14,8 @@ use Rattle.strip.specs.Entry.{kindOf, refsOf, immediateOf, encode}
 use Rattle.strip.specs.Shape.{stripBytes}
 use Rattle.translation.specs.Insn.{Insn, bits, bit}
 use Rattle.translation.specs.Code.{Code, Built, build}
-use Rattle.translation.specs.Helpers.{r, set, logicalNotIf, predicate, p, setp, b2u, cbufAt, cbufImm, srcB, srcBc, inot, ineg, carryFlag, signedOverflow, setCc, setCcNone, setSumCc, addWithFlags, addWithCarry, saturateAdd, boolOp, lessThan, lessThanEqual, greaterThan, greaterThanEqual, intCmp, ccCase, ccTest, shifted, shiftFill, shiftEnd, shift, lop3Row, lop3Rows, lop3, extract, field, half16, halfSelect, videoOperand, intSource, clampHigh, saturateBy, saturateInt}
-use Rattle.translation.specs.Arms.{mov, mov32i, sel, setpBoth, setTruth, csetp, setWord, setEither, icompare, pcombine, prepared, addFlag, addOne, iaddSum, iaddOf, iadd, iadd32i, iadd3Shift, iadd3Sum, iadd3Of, iadd3Fetch, iadd3, iscadd, xmadShift, xmadAlter, xmadMerge, xmadProduct, xmadOf, xmadBc, xmadFetch, xmad, minOf, maxOf, imnmx, icmpOf, icmpBc, icmp, lopWord, lopTest, lopPredicate, lop, lop32i, lop3Arm, shl, reverseIf, shr, insertField, extractField, useField, fieldOf, bfe, bfiOf, bfiBc, bfi, vmnmxB, vmnmxMixed, vmnmxFirst, minOrMax, vmnmxWord, vmnmxSaturate, vmnmxInsert, vmnmxMerge, vmnmxOf, vmnmx, absolute, saturateIf, i2i, findMsb, floShift, flo, popc, noteUnless, storeCell, r2pTurn, r2pTurns, r2p, loadCell, p2rTurn, p2rTurns, p2r, shfAmount, shfSelect, shfWord, shfOf, shf, leaB, leaJoin, leaWord, lea, armOf}
+use Rattle.translation.specs.Helpers.{p}
+use Rattle.translation.specs.Arms.{armOf}
 use Rattle.translation.specs.Marks.{raise, uses}
 use Rattle.translation.specs.Emit.{Buffer, Value, wrote, emits, view}
 use Rattle.translation.specs.Strip.{Answer, guard, guardNot, block, guarded, entriesOf, strip, marked, refused, fitted}
@@ -23,33 +23,9 @@ use Rattle.translation.specs.Whole.{writes}
 use Rattle.translation.specs.declared.writer.Pos.{Pos}
 use Rattle.translation.specs.declared.answer.Outcome.the-variants.{Written}
 use Rattle.translation.specs.declared.answer.Refusal.the-variants.{NoRoom}
-use Rattle.translation.proofs.Fits.{bytes-append, sets-append, bound, room, marks, roomy, next-bound, Mark, last, markOf, Fit, fits}
+use Rattle.translation.proofs.Fits.{bytes-append, sets-append, roomy, next-bound, Mark, last, markOf, Fit, fits}
+use Rattle.translation.proofs.Arms.{arm-sized, guard-sized}
 use Rattle.translation.proofs.Marked.{clear, none-used, raise-none, one-used}
-
--- ---- how much an arm writes, whatever the mode bits
-pub arm-room : (k : ℕ) (i : Insn) → room (armOf k i) ≤ 245
-unfolding mov mov32i sel setpBoth setTruth csetp setWord setEither icompare pcombine prepared addFlag addOne iaddSum iaddOf iadd iadd32i iadd3Shift iadd3Sum iadd3Of iadd3Fetch iadd3 iscadd xmadShift xmadAlter xmadMerge xmadProduct xmadOf xmadBc xmadFetch xmad minOf maxOf imnmx icmpOf icmpBc icmp lopWord lopTest lopPredicate lop lop32i lop3Arm shl reverseIf shr insertField extractField useField fieldOf bfe bfiOf bfiBc bfi vmnmxB vmnmxMixed vmnmxFirst minOrMax vmnmxWord vmnmxSaturate vmnmxInsert vmnmxMerge vmnmxOf vmnmx absolute saturateIf i2i findMsb floShift flo popc noteUnless storeCell r2pTurn r2pTurns r2p loadCell p2rTurn p2rTurns p2r shfAmount shfSelect shfWord shfOf shf leaB leaJoin leaWord lea armOf r set logicalNotIf predicate p setp b2u cbufAt cbufImm srcB srcBc inot ineg carryFlag signedOverflow setCc setCcNone setSumCc addWithFlags addWithCarry saturateAdd boolOp lessThan lessThanEqual greaterThan greaterThanEqual intCmp ccCase ccTest shifted shiftFill shiftEnd shift lop3Row lop3Rows lop3 extract field half16 halfSelect videoOperand intSource clampHigh saturateBy saturateInt
-arm-room k i = omega arith
-
-pub arm-bound : (k : ℕ) (i : Insn) → bound (armOf k i) ≤ 59
-unfolding mov mov32i sel setpBoth setTruth csetp setWord setEither icompare pcombine prepared addFlag addOne iaddSum iaddOf iadd iadd32i iadd3Shift iadd3Sum iadd3Of iadd3Fetch iadd3 iscadd xmadShift xmadAlter xmadMerge xmadProduct xmadOf xmadBc xmadFetch xmad minOf maxOf imnmx icmpOf icmpBc icmp lopWord lopTest lopPredicate lop lop32i lop3Arm shl reverseIf shr insertField extractField useField fieldOf bfe bfiOf bfiBc bfi vmnmxB vmnmxMixed vmnmxFirst minOrMax vmnmxWord vmnmxSaturate vmnmxInsert vmnmxMerge vmnmxOf vmnmx absolute saturateIf i2i findMsb floShift flo popc noteUnless storeCell r2pTurn r2pTurns r2p loadCell p2rTurn p2rTurns p2r shfAmount shfSelect shfWord shfOf shf leaB leaJoin leaWord lea armOf r set logicalNotIf predicate p setp b2u cbufAt cbufImm srcB srcBc inot ineg carryFlag signedOverflow setCc setCcNone setSumCc addWithFlags addWithCarry saturateAdd boolOp lessThan lessThanEqual greaterThan greaterThanEqual intCmp ccCase ccTest shifted shiftFill shiftEnd shift lop3Row lop3Rows lop3 extract field half16 halfSelect videoOperand intSource clampHigh saturateBy saturateInt
-arm-bound k i = omega arith
-
-pub arm-marks : (k : ℕ) (i : Insn) → marks (armOf k i) ≤ 1
-unfolding mov mov32i sel setpBoth setTruth csetp setWord setEither icompare pcombine prepared addFlag addOne iaddSum iaddOf iadd iadd32i iadd3Shift iadd3Sum iadd3Of iadd3Fetch iadd3 iscadd xmadShift xmadAlter xmadMerge xmadProduct xmadOf xmadBc xmadFetch xmad minOf maxOf imnmx icmpOf icmpBc icmp lopWord lopTest lopPredicate lop lop32i lop3Arm shl reverseIf shr insertField extractField useField fieldOf bfe bfiOf bfiBc bfi vmnmxB vmnmxMixed vmnmxFirst minOrMax vmnmxWord vmnmxSaturate vmnmxInsert vmnmxMerge vmnmxOf vmnmx absolute saturateIf i2i findMsb floShift flo popc noteUnless storeCell r2pTurn r2pTurns r2p loadCell p2rTurn p2rTurns p2r shfAmount shfSelect shfWord shfOf shf leaB leaJoin leaWord lea armOf r set logicalNotIf predicate p setp b2u cbufAt cbufImm srcB srcBc inot ineg carryFlag signedOverflow setCc setCcNone setSumCc addWithFlags addWithCarry saturateAdd boolOp lessThan lessThanEqual greaterThan greaterThanEqual intCmp ccCase ccTest shifted shiftFill shiftEnd shift lop3Row lop3Rows lop3 extract field half16 halfSelect videoOperand intSource clampHigh saturateBy saturateInt
-arm-marks k i = omega arith
-
-guard-room : (k : ℕ) (n : Bool) → room (p k n) ≤ 5
-unfolding p predicate logicalNotIf
-guard-room k n = omega arith
-
-guard-bound : (k : ℕ) (n : Bool) → bound (p k n) ≤ 2
-unfolding p predicate logicalNotIf
-guard-bound k n = omega arith
-
-guard-marks : (k : ℕ) (n : Bool) → marks (p k n) ≡ 0
-unfolding p predicate logicalNotIf
-guard-marks k n = refl
 
 -- ---- a buffer that holds bytes from its front on
 pub record Holds (l : List ℕ) (b : Buffer) (xs : List ℕ) : Type 0 where
@@ -120,8 +96,8 @@ module _ (k : ℕ) (i : Insn) (l : List ℕ) where
   arm-fit : (b : Buffer) (xs : List ℕ) → Holds l b xs → length xs ≤ 8 → b .next ≤ 2
       → Fit b (emits (armOf k i) [] b) (build (armOf k i) [] (b .next) .entries) (build (armOf k i) [] (b .next) .result) (build (armOf k i) [] (b .next) .next) (last (armOf k i) (markOf b))
   arm-fit b xs h small few =
-      fits (armOf k i) [] b (omega (arith, h .at, roomy (armOf k i) [] (b .next), arm-room k i))
-      (omega (arith, next-bound (armOf k i) [] (b .next), arm-bound k i))
+      fits (armOf k i) [] b (omega (arith, h .at, roomy (armOf k i) [] (b .next), arm-sized k i .room))
+      (omega (arith, next-bound (armOf k i) [] (b .next), arm-sized k i .bound))
 
   never : Holding l (wrote (Of.Bare 255) (start l)) (encode (Of.Bare 255)) (λ m. m)
   unfolding wrote
@@ -132,11 +108,11 @@ module _ (k : ℕ) (i : Insn) (l : List ℕ) where
   plain =
       let f = arm-fit (start l) [] at-start (omega arith) (omega arith) in
       let xs = stripBytes (build (armOf k i) [] 0 .entries) in
-      let z : length xs ≤ 245 = omega (arith, roomy (armOf k i) [] 0, arm-room k i) in
+      let z : length xs ≤ 245 = omega (arith, roomy (armOf k i) [] 0, arm-sized k i .room) in
       record {
         holds = hold-entry l xs _ (Of.Bare 255) (hold-fit l [] (start l) _ _ _ _ _ at-start f) (omega (arith, bare-size 255));
         short = omega (arith, length-append xs (encode (Of.Bare 255)), bare-size 255);
-        mark = λ m. rw (wrote-slot, wrote-need, f .slot, f .need) (sym (one-used (armOf k i) m (arm-marks k i)));
+        mark = λ m. rw (wrote-slot, wrote-need, f .slot, f .need) (sym (one-used (armOf k i) m (arm-sized k i .marks)));
       }
 
   -- behind the guard and its open
@@ -145,8 +121,8 @@ module _ (k : ℕ) (i : Insn) (l : List ℕ) where
       ((((stripBytes (g .entries) ++ encode (Of.One 100 (g .result))) ++ stripBytes (arm (g .next))) ++ encode (Of.Bare 101)) ++ encode (Of.Bare 255)) (uses (armOf k i))
   unfolding g arm
   opened m h er en em =
-      let gr : length (stripBytes (g .entries)) ≤ 5 = omega (arith, roomy (p (guard i) (guardNot i)) [] 0, guard-room (guard i) (guardNot i)) in
-      let gb : g .next ≤ 2 = omega (arith, next-bound (p (guard i) (guardNot i)) [] 0, guard-bound (guard i) (guardNot i)) in
+      let gr : length (stripBytes (g .entries)) ≤ 5 = omega (arith, roomy (p (guard i) (guardNot i)) [] 0, guard-sized (guard i) (guardNot i) .room) in
+      let gb : g .next ≤ 2 = omega (arith, next-bound (p (guard i) (guardNot i)) [] 0, guard-sized (guard i) (guardNot i) .bound) in
       let e = Of.One 100 (m .number) in
       let o = wrote e (m .buffer) in
       let x0 = stripBytes (g .entries) ++ encode e in
@@ -156,7 +132,7 @@ module _ (k : ℕ) (i : Insn) (l : List ℕ) where
       let lo : length x0 ≤ 8 = omega (arith, length-append (stripBytes (g .entries)) (encode e), open-size (m .number)) in
       let f = arm-fit o x0 ho lo (omega arith) in
       let x1 = stripBytes (build (armOf k i) [] (o .next) .entries) in
-      let z : length x1 ≤ 245 = omega (arith, roomy (armOf k i) [] (o .next), arm-room k i) in
+      let z : length x1 ≤ 245 = omega (arith, roomy (armOf k i) [] (o .next), arm-sized k i .room) in
       let hf = hold-fit l x0 o _ _ _ _ _ ho f in
       let l1 : length (x0 ++ x1) ≤ 253 = omega (arith, length-append x0 x1) in
       let hc = hold-entry l (x0 ++ x1) _ (Of.Bare 101) hf (omega (arith, bare-size 101)) in
@@ -170,7 +146,7 @@ module _ (k : ℕ) (i : Insn) (l : List ℕ) where
       (record {
         holds = he;
         short = omega (arith, length-append x2 (encode (Of.Bare 255)), bare-size 255);
-        mark = λ m. rw (sl, ne) (sym (one-used (armOf k i) m (arm-marks k i)));
+        mark = λ m. rw (sl, ne) (sym (one-used (armOf k i) m (arm-sized k i .marks)));
       })
 
   inBlock : Holding l
@@ -179,9 +155,9 @@ module _ (k : ℕ) (i : Insn) (l : List ℕ) where
   unfolding g
   inBlock =
       let c = p (guard i) (guardNot i) in
-      let f = fits c [] (start l) (omega (arith, roomy c [] 0, guard-room (guard i) (guardNot i))) (omega (arith, next-bound c [] 0, guard-bound (guard i) (guardNot i))) in
+      let f = fits c [] (start l) (omega (arith, roomy c [] 0, guard-sized (guard i) (guardNot i) .room)) (omega (arith, next-bound c [] 0, guard-sized (guard i) (guardNot i) .bound)) in
       let e : markOf (emits c [] (start l) .buffer) ≡ last c clear = rw (f .slot, f .need) in
-      opened (emits c [] (start l)) (hold-fit l [] (start l) _ _ _ _ _ at-start f) (f .number) (f .next) (e ∙ none-used c [] clear (guard-marks (guard i) (guardNot i)) .1)
+      opened (emits c [] (start l)) (hold-fit l [] (start l) _ _ _ _ _ at-start f) (f .number) (f .next) (e ∙ none-used c [] clear (let z = guard-sized (guard i) (guardNot i) .marks in omega arith) .1)
 
   block-bytes : stripBytes (block g (armOf k i) ++ (Of.Bare 255 ∷ [])) ≡ (((stripBytes (g .entries) ++ encode (Of.One 100 (g .result))) ++ stripBytes (arm (g .next))) ++ encode (Of.Bare 101)) ++ encode (Of.Bare 255)
   unfolding arm stripBytes

@@ -203,8 +203,12 @@ iscadd i = fn0 do
 
 -- ---- xmad: its operands hang on the form and, in the constant form, on the opcode's value 0x5100 << 48
 
+-- the opcode's value puts the constant in c
+unfoldable pub xmadSwaps : Insn → Bool
+xmadSwaps i = eqb (i .value) 5836665117072162816
+
 unfoldable pub xmadInC : Insn → Bool
-xmadInC i = eqb (i .form) 1 && eqb (i .value) 5836665117072162816
+xmadInC i = eqb (i .form) 1 && xmadSwaps i
 
 -- high half of b, shift of the product, merge, mode
 unfoldable pub xmadHigh : Insn → Bool
@@ -262,10 +266,6 @@ xmadOf i = fn3 λ a b c. do
   v ← fn3! (xmadMerge (xmadMrg i)) v b sixteen
   v ← fn1! (set (rd i)) v
   pure v
-
--- the opcode's value puts the constant in c
-unfoldable pub xmadSwaps : Insn → Bool
-xmadSwaps i = eqb (i .value) 5836665117072162816
 
 unfoldable pub xmadBc : Insn → Code
 xmadBc i = srcBc i (xmadSwaps i) (xmadOf i)
@@ -818,6 +818,40 @@ lea i = fn0 do
 
 -- ---- all of them, by kind
 
+-- conversion, counts, predicates and flags in a register, two words at once
+unfoldable pub wordArm : ℕ → Insn → Code
+wordArm k i =
+    ite (eqb k 23) (vmnmx i)
+    (ite (eqb k 24) (i2i i)
+    (ite (eqb k 25) (flo i)
+    (ite (eqb k 26) (popc i)
+    (ite (eqb k 27) (r2p i)
+    (ite (eqb k 28) (p2r i)
+    (ite (eqb k 29) (shf i) (lea i)))))))
+
+-- logic, shifts and fields
+unfoldable pub bitArm : ℕ → Insn → Code
+bitArm k i =
+    ite (eqb k 16) (lop i)
+    (ite (eqb k 17) (lop32i i)
+    (ite (eqb k 18) (lop3Arm i)
+    (ite (eqb k 19) (shl i)
+    (ite (eqb k 20) (shr i)
+    (ite (eqb k 21) (bfe i)
+    (ite (eqb k 22) (bfi i) (wordArm k i)))))))
+
+-- sums, minimum, comparison
+unfoldable pub sumArm : ℕ → Insn → Code
+sumArm k i =
+    ite (eqb k 9) (iadd i)
+    (ite (eqb k 10) (iadd32i i)
+    (ite (eqb k 11) (iadd3 i)
+    (ite (eqb k 12) (iscadd i)
+    (ite (eqb k 13) (xmad i)
+    (ite (eqb k 14) (imnmx i)
+    (ite (eqb k 15) (icmp i) (bitArm k i)))))))
+
+-- moves, predicates; then the others
 unfoldable pub armOf : ℕ → Insn → Code
 armOf k i =
     ite (eqb k 1) (mov i)
@@ -827,25 +861,4 @@ armOf k i =
     (ite (eqb k 5) (icompare true i)
     (ite (eqb k 6) (icompare false i)
     (ite (eqb k 7) (pcombine true i)
-    (ite (eqb k 8) (pcombine false i)
-    (ite (eqb k 9) (iadd i)
-    (ite (eqb k 10) (iadd32i i)
-    (ite (eqb k 11) (iadd3 i)
-    (ite (eqb k 12) (iscadd i)
-    (ite (eqb k 13) (xmad i)
-    (ite (eqb k 14) (imnmx i)
-    (ite (eqb k 15) (icmp i)
-    (ite (eqb k 16) (lop i)
-    (ite (eqb k 17) (lop32i i)
-    (ite (eqb k 18) (lop3Arm i)
-    (ite (eqb k 19) (shl i)
-    (ite (eqb k 20) (shr i)
-    (ite (eqb k 21) (bfe i)
-    (ite (eqb k 22) (bfi i)
-    (ite (eqb k 23) (vmnmx i)
-    (ite (eqb k 24) (i2i i)
-    (ite (eqb k 25) (flo i)
-    (ite (eqb k 26) (popc i)
-    (ite (eqb k 27) (r2p i)
-    (ite (eqb k 28) (p2r i)
-    (ite (eqb k 29) (shf i) (lea i)))))))))))))))))))))))))))))
+    (ite (eqb k 8) (pcombine false i) (sumArm k i))))))))

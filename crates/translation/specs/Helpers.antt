@@ -201,7 +201,19 @@ intCmp o signed =
     (ite (eqb o 5) (fn2 λ a b. do v ← iNotEqual a b; pure v)
     (ite (eqb o 6) (greaterThanEqual signed) (fn2 λ a b. do v ← btrue; pure v)))))))
 
--- the cases of `cc_test`, of z, s, c, o and lt
+-- the cases of `cc_test` that ask for single flags, of z, s, c and o
+unfoldable pub ccFlags : ℕ → Code
+ccFlags t =
+    ite (eqb t 7) (fn4 λ z s c o. do v ← logicalNot o; pure v)
+    (ite (eqb t 8 || eqb t 23) (fn4 λ z s c o. pure o)
+    (ite (eqb t 17) (fn4 λ z s c o. do v ← logicalNot c; pure v)
+    (ite (eqb t 18) (fn4 λ z s c o. do v ← logicalNot s; pure v)
+    (ite (eqb t 19) (fn4 λ z s c o. do nc ← logicalNot c; v ← logicalOr nc z; pure v)
+    (ite (eqb t 20) (fn4 λ z s c o. do nz ← logicalNot z; v ← logicalAnd c nz; pure v)
+    (ite (eqb t 21) (fn4 λ z s c o. pure s)
+    (ite (eqb t 22) (fn4 λ z s c o. pure c) (fn4 λ z s c o. do unsupported 1; v ← btrue; pure v))))))))
+
+-- all of them, of z, s, c, o and lt: first those that compare
 unfoldable pub ccCase : ℕ → Code
 ccCase t =
     ite (eqb t 0 || eqb t 16) (fn5 λ z s c o lt. do v ← constantFalse; pure v)
@@ -210,15 +222,7 @@ ccCase t =
     (ite (eqb t 3 || eqb t 11) (fn5 λ z s c o lt. do v ← logicalOr lt z; pure v)
     (ite (eqb t 4 || eqb t 12) (fn5 λ z s c o lt. do le ← logicalOr lt z; v ← logicalNot le; pure v)
     (ite (eqb t 5 || eqb t 13) (fn5 λ z s c o lt. do v ← logicalNot z; pure v)
-    (ite (eqb t 6 || eqb t 14) (fn5 λ z s c o lt. do v ← logicalNot lt; pure v)
-    (ite (eqb t 7) (fn5 λ z s c o lt. do v ← logicalNot o; pure v)
-    (ite (eqb t 8 || eqb t 23) (fn5 λ z s c o lt. pure o)
-    (ite (eqb t 17) (fn5 λ z s c o lt. do v ← logicalNot c; pure v)
-    (ite (eqb t 18) (fn5 λ z s c o lt. do v ← logicalNot s; pure v)
-    (ite (eqb t 19) (fn5 λ z s c o lt. do nc ← logicalNot c; v ← logicalOr nc z; pure v)
-    (ite (eqb t 20) (fn5 λ z s c o lt. do nz ← logicalNot z; v ← logicalAnd c nz; pure v)
-    (ite (eqb t 21) (fn5 λ z s c o lt. pure s)
-    (ite (eqb t 22) (fn5 λ z s c o lt. pure c) (fn5 λ z s c o lt. do unsupported 1; v ← btrue; pure v)))))))))))))))
+    (ite (eqb t 6 || eqb t 14) (fn5 λ z s c o lt. do v ← logicalNot lt; pure v) (fn5 λ z s c o lt. do v ← fn4! (ccFlags t) z s c o; pure v)))))))
 
 unfoldable pub ccTest : ℕ → Code
 ccTest t = fn0 do

@@ -1,5 +1,5 @@
 -- From a record to its strip and its answer (01, 'Record', 'Strip' and 'Who can cause a refusal'): this is the definition of the translation.
-use mathlib.Core.Bool.{Bool, true, false, cond, _&&_}
+use mathlib.Core.Bool.{Bool, true, false, cond, not, _&&_}
 use mathlib.Core.List.{List, [], _∷_, _++_}
 use Prim.Native.Nat.{ℕ, _+_, _*_}
 use lib.Dec.{eqb, ltb, leb}
@@ -53,10 +53,11 @@ marked k i m = cond (eqb (guard i) 7 && guardNot i) m (uses (armOf k i) m)
 
 -- ---- the record: 18 bytes, little-endian
 
+abbrev pub halfAt : List ℕ → ℕ → ℕ
+halfAt l n = getD l n 0 + getD l (n + 1) 0 * 256 + getD l (n + 2) 0 * 65536 + getD l (n + 3) 0 * 16777216
+
 abbrev pub wordAt : List ℕ → ℕ → ℕ
-wordAt l n =
-    getD l n 0 + getD l (n + 1) 0 * 256 + getD l (n + 2) 0 * 65536 + getD l (n + 3) 0 * 16777216 + getD l (n + 4) 0 * 4294967296
-    + getD l (n + 5) 0 * 1099511627776 + getD l (n + 6) 0 * 281474976710656 + getD l (n + 7) 0 * 72057594037927936
+wordAt l n = halfAt l n + halfAt l (n + 4) * 4294967296
 
 abbrev pub insnOf : List ℕ → Insn
 insnOf l = record { form = getD l 1 0; value = wordAt l 2; word = wordAt l 10 }
@@ -72,6 +73,12 @@ laneMov k i = eqb k 1 && eqb (i .value) 17350117564444835840
 -- i2i of a half, from byte 3 on
 unfoldable pub byteThree : ℕ → Insn → Bool
 byteThree k i = eqb k 24 && (eqb (bits i 10 2) 1 && eqb (bits i 41 2) 3)
+
+-- 01 admits the record: none of the refusals 1 to 5 holds
+unfoldable pub admits : List ℕ → Bool
+admits l =
+    eqb (length l) 18
+    && (known (getD l 0 0) && (not (ltb 2 (insnOf l .form)) && (not (laneMov (getD l 0 0) (insnOf l)) && not (byteThree (getD l 0 0) (insnOf l)))))
 
 -- ---- the answer: the strip's length or a refusal, the marks, the room
 

@@ -1,4 +1,4 @@
--- What the code does for a whole strip, and what contracts say of it. `proofs/Written.antt` has that it is the definition.
+-- What the code does for a whole strip, and what contracts say of it. `proofs/Whole.antt` has that it is the definition.
 use mathlib.Core.Bool.{cond}
 use mathlib.Core.List.{List, []}
 use Prim.Native.Nat.{ℕ}

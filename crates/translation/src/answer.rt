@@ -4,10 +4,10 @@ ghost use mathlib.Core.List.{[]};
 ghost use Prim.Native.Nat.{_+_, _*_, _<_, _≤_, max};
 ghost use lib.ListN.{length};
 ghost use lib.Seq.{paste};
-ghost use Rattle.translation.specs.Arms.{armOf};
+ghost use Rattle.translation.specs.Arms.{armOf, bitArm, sumArm, wordArm};
 ghost use Rattle.translation.specs.Emit.{view, seen, Does};
 ghost use Rattle.translation.specs.Marks.{raise};
-ghost use Rattle.translation.specs.Strip.{guard, known, laneMov, byteThree, wordAt, fitted, admitted, translation};
+ghost use Rattle.translation.specs.Strip.{guard, refusalNumber, known, laneMov, byteThree, halfAt, wordAt, fitted, admitted, translation};
 ghost use Rattle.translation.specs.Whole.{writes, answered};
 use crate::arm::bfe;
 use crate::arm::bfi;
@@ -63,6 +63,20 @@ pub enum Refusal {
     NoRoom,
 }
 
+// 01's number of a refusal.
+pub fn refusal_number(r: Refusal) -> u32
+    ensures { λ n. ⌜ n ≡ refusalNumber r ⌝ }
+{
+    match r {
+        Refusal::BadLength => 1,
+        Refusal::UnknownKind => 2,
+        Refusal::UnknownForm => 3,
+        Refusal::LaneMov => 4,
+        Refusal::ByteThree => 5,
+        Refusal::NoRoom => 6,
+    }
+}
+
 // The strip's length, or the refusal.
 pub enum Outcome {
     Written(usize),
@@ -75,7 +89,55 @@ pub struct Translated {
     pub cbuf_used: [u32; 32],
 }
 
-// The arm of a kind.
+// The arm of a kind: conversion, counts, predicates and flags in a register, two words at once.
+fn word_arm(buf: &mut [u8; 264], at: Pos, kind: u8, i: Insn) -> Made
+    ensures { λ m. ⌜ Does (view (now (buf .entry)) at) (seen (now (buf .exit)) m) (wordArm kind i) [] ⌝ }
+{
+    match kind {
+        23 => vmnmx(buf, at, i),
+        24 => i2i(buf, at, i),
+        25 => flo(buf, at, i),
+        26 => popc(buf, at, i),
+        27 => r2p(buf, at, i),
+        28 => p2r(buf, at, i),
+        29 => shf(buf, at, i),
+        _ => lea(buf, at, i),
+    }
+}
+
+// Logic, shifts and fields; then the above.
+fn bit_arm(buf: &mut [u8; 264], at: Pos, kind: u8, i: Insn) -> Made
+    ensures { λ m. ⌜ Does (view (now (buf .entry)) at) (seen (now (buf .exit)) m) (bitArm kind i) [] ⌝ }
+{
+    match kind {
+        16 => lop(buf, at, i),
+        17 => lop32i(buf, at, i),
+        18 => lop3_arm(buf, at, i),
+        19 => shl(buf, at, i),
+        20 => shr(buf, at, i),
+        21 => bfe(buf, at, i),
+        22 => bfi(buf, at, i),
+        _ => word_arm(buf, at, kind, i),
+    }
+}
+
+// Sums, minimum, comparison; then the above.
+fn sum_arm(buf: &mut [u8; 264], at: Pos, kind: u8, i: Insn) -> Made
+    ensures { λ m. ⌜ Does (view (now (buf .entry)) at) (seen (now (buf .exit)) m) (sumArm kind i) [] ⌝ }
+{
+    match kind {
+        9 => iadd(buf, at, i),
+        10 => iadd32i(buf, at, i),
+        11 => iadd3(buf, at, i),
+        12 => iscadd(buf, at, i),
+        13 => xmad(buf, at, i),
+        14 => imnmx(buf, at, i),
+        15 => icmp(buf, at, i),
+        _ => bit_arm(buf, at, kind, i),
+    }
+}
+
+// Moves, predicates; then the above.
 fn op(buf: &mut [u8; 264], at: Pos, kind: u8, i: Insn) -> Made
     ensures { λ m. ⌜ Does (view (now (buf .entry)) at) (seen (now (buf .exit)) m) (armOf kind i) [] ⌝ }
 {
@@ -88,28 +150,7 @@ fn op(buf: &mut [u8; 264], at: Pos, kind: u8, i: Insn) -> Made
         6 => icompare(buf, at, false, i),
         7 => pcombine(buf, at, true, i),
         8 => pcombine(buf, at, false, i),
-        9 => iadd(buf, at, i),
-        10 => iadd32i(buf, at, i),
-        11 => iadd3(buf, at, i),
-        12 => iscadd(buf, at, i),
-        13 => xmad(buf, at, i),
-        14 => imnmx(buf, at, i),
-        15 => icmp(buf, at, i),
-        16 => lop(buf, at, i),
-        17 => lop32i(buf, at, i),
-        18 => lop3_arm(buf, at, i),
-        19 => shl(buf, at, i),
-        20 => shr(buf, at, i),
-        21 => bfe(buf, at, i),
-        22 => bfi(buf, at, i),
-        23 => vmnmx(buf, at, i),
-        24 => i2i(buf, at, i),
-        25 => flo(buf, at, i),
-        26 => popc(buf, at, i),
-        27 => r2p(buf, at, i),
-        28 => p2r(buf, at, i),
-        29 => shf(buf, at, i),
-        _ => lea(buf, at, i),
+        _ => sum_arm(buf, at, kind, i),
     }
 }
 
@@ -251,34 +292,32 @@ fn wide(x: u8) -> u64
     x as u64
 }
 
-fn word_at(s: &[u8], at: usize) -> u64
-    requires { ⌜ at + 8 ≤ length (now s) ⌝ }
-    ensures { λ r. ⌜ r ≡ wordAt (now (s .entry)) at ⌝ }
+fn half_at(s: &[u8], at: usize) -> u64
+    requires { ⌜ at + 4 ≤ length (now s) ⌝ }
+    ensures { λ r. ⌜ (r ≡ halfAt (now (s .entry)) at) × (r < 4294967296) ⌝ }
 {
     let a = wide(s[at]);
     let b = wide(s[at + 1]);
     let c = wide(s[at + 2]);
     let d = wide(s[at + 3]);
-    let e = wide(s[at + 4]);
-    let f = wide(s[at + 5]);
-    let g = wide(s[at + 6]);
-    let h = wide(s[at + 7]);
-    a
-        + b * 0x100
-        + c * 0x1_0000
-        + d * 0x100_0000
-        + e * 0x1_0000_0000
-        + f * 0x100_0000_0000
-        + g * 0x1_0000_0000_0000
-        + h * 0x100_0000_0000_0000
+    a + b * 0x100 + c * 0x1_0000 + d * 0x100_0000
+}
+
+fn word_at(s: &[u8], at: usize) -> u64
+    requires { ⌜ at + 8 ≤ length (now s) ⌝ }
+    ensures { λ r. ⌜ r ≡ wordAt (now (s .entry)) at ⌝ }
+{
+    let low = half_at(s, at);
+    let high = half_at(s, at + 4);
+    low + high * 0x1_0000_0000
 }
 
 // A record's strip at the front of out, and nothing else of it; or a refusal, which leaves the marks and out as they are.
-pub fn translate(bytes: &[u8], marks: [u32; 32], out: &mut [u8]) -> Translated
-    ensures { λ r. ⌜ answered r (now (out .exit)) ≡ translation (now (bytes .entry)) marks (now (out .entry)) ⌝ }
+pub fn translate(bytes: &[u8], cbuf_used: [u32; 32], out: &mut [u8]) -> Translated
+    ensures { λ r. ⌜ answered r (now (out .exit)) ≡ translation (now (bytes .entry)) «cbuf_used» (now (out .entry)) ⌝ }
 {
     if bytes.len() != 18 {
-        return refused(Refusal::BadLength, marks);
+        return refused(Refusal::BadLength, cbuf_used);
     }
     let kind = bytes[0];
     let form = bytes[1];
@@ -291,7 +330,7 @@ pub fn translate(bytes: &[u8], marks: [u32; 32], out: &mut [u8]) -> Translated
             value: value,
             word: word,
         },
-        marks,
+        cbuf_used,
         out,
     )
 }

@@ -2,6 +2,8 @@
 ghost use mathlib.Core.List.{[], _∷_};
 ghost use Prim.Native.Nat.{_<_, _≤_};
 ghost use Rattle.translation.specs.Arms.{absolute, addFlag, addOne, bfe, bfi, bfiBc, bfiOf, csetp, extractField, fieldOf, findMsb, flo, floShift, i2i, iadd, iadd3, iadd32i, iadd3Fetch, iadd3Of, iadd3Shift, iadd3Sum, iaddOf, iaddSum, icmp, icmpBc, icmpOf, icompare, imnmx, insertField, iscadd, lea, leaB, leaJoin, leaWord, loadCell, lop, lop32i, lop3Arm, lopPredicate, lopTest, lopWord, maxOf, minOf, minOrMax, mov, mov32i, noteUnless, p2r, p2rTurn, p2rTurns, pcombine, popc, prepared, r2p, r2pTurn, r2pTurns, reverseIf, saturateIf, sel, setEither, setTruth, setWord, setpBoth, shf, shfAmount, shfOf, shfSelect, shfWord, shl, shr, storeCell, useField, vmnmx, vmnmxB, vmnmxFirst, vmnmxInsert, vmnmxMerge, vmnmxMixed, vmnmxOf, vmnmxSaturate, vmnmxWord, xmad, xmadAlter, xmadBc, xmadFetch, xmadMerge, xmadOf, xmadProduct, xmadShift};
+ghost use Rattle.translation.specs.Helpers.{p, r, set};
+ghost use Rattle.translation.specs.Insn.{bit, bits, ra, rc, rd};
 ghost use Rattle.translation.specs.Emit.{view, seen, Does};
 use crate::helper::add_with_carry;
 use crate::helper::add_with_flags;
@@ -32,8 +34,6 @@ use crate::helper::video_operand;
 use crate::insn::Insn;
 use crate::insn::bit;
 use crate::insn::bits;
-use crate::insn::cslot;
-use crate::insn::cword;
 use crate::insn::imm32;
 use crate::insn::ra;
 use crate::insn::rb;
@@ -76,28 +76,53 @@ use crate::writer::truth;
 use crate::writer::two;
 use crate::writer::u;
 
+// what many arms fetch and store by the instruction's fields: its registers, its predicate
+pub fn r_a(buf: &mut [u8; 264], at: Pos, i: Insn) -> Made
+    ensures { λ m. ⌜ Does (view (now (buf .entry)) at) (seen (now (buf .exit)) m) (r (ra i)) [] ⌝ }
+{
+    r(buf, at, ra(i))
+}
+
+pub fn r_c(buf: &mut [u8; 264], at: Pos, i: Insn) -> Made
+    ensures { λ m. ⌜ Does (view (now (buf .entry)) at) (seen (now (buf .exit)) m) (r (rc i)) [] ⌝ }
+{
+    r(buf, at, rc(i))
+}
+
+pub fn p_39(buf: &mut [u8; 264], at: Pos, i: Insn) -> Made
+    ensures { λ m. ⌜ Does (view (now (buf .entry)) at) (seen (now (buf .exit)) m) (p (bits i 39 3) (bit i 42)) [] ⌝ }
+{
+    p(buf, at, bits(i, 39, 3) as u8, bit(i, 42))
+}
+
+pub fn set_d(buf: &mut [u8; 264], at: Pos, i: Insn, v: u8) -> Made
+    ensures { λ m. ⌜ Does (view (now (buf .entry)) at) (seen (now (buf .exit)) m) (set (rd i)) (v ∷ []) ⌝ }
+{
+    set(buf, at, rd(i), v)
+}
+
 pub fn mov(buf: &mut [u8; 264], at: Pos, i: Insn) -> Made
     ensures { λ m. ⌜ Does (view (now (buf .entry)) at) (seen (now (buf .exit)) m) (mov i) [] ⌝ }
 {
     let v = src_b(buf, at, i);
-    set(buf, v.pos, rd(i), v.value)
+    set_d(buf, v.pos, i, v.value)
 }
 
 pub fn mov32i(buf: &mut [u8; 264], at: Pos, i: Insn) -> Made
     ensures { λ m. ⌜ Does (view (now (buf .entry)) at) (seen (now (buf .exit)) m) (mov32i i) [] ⌝ }
 {
     let v = u(buf, at, imm32(i));
-    set(buf, v.pos, rd(i), v.value)
+    set_d(buf, v.pos, i, v.value)
 }
 
 pub fn sel(buf: &mut [u8; 264], at: Pos, i: Insn) -> Made
     ensures { λ m. ⌜ Does (view (now (buf .entry)) at) (seen (now (buf .exit)) m) (sel i) [] ⌝ }
 {
-    let c = p(buf, at, bits(i, 39, 3) as u8, bit(i, 42));
-    let a = r(buf, c.pos, ra(i));
+    let c = p_39(buf, at, i);
+    let a = r_a(buf, c.pos, i);
     let b = src_b(buf, a.pos, i);
     let v = three(buf, b.pos, 90, c.value, a.value, b.value);
-    set(buf, v.pos, rd(i), v.value)
+    set_d(buf, v.pos, i, v.value)
 }
 
 // of a test and a predicate: both combined, then the test's negation and the predicate; stored in this order
@@ -117,14 +142,14 @@ pub fn set_truth(buf: &mut [u8; 264], at: Pos, i: Insn, c: u8) -> Made
 {
     let v = b2u(buf, at, truth_word(i), 0, c);
     let v2 = set_cc_none(buf, v.pos, bit(i, 47), v.value);
-    set(buf, v2.pos, rd(i), v2.value)
+    set_d(buf, v2.pos, i, v2.value)
 }
 
 pub fn csetp(buf: &mut [u8; 264], at: Pos, i: Insn) -> Made
     ensures { λ m. ⌜ Does (view (now (buf .entry)) at) (seen (now (buf .exit)) m) (csetp i) [] ⌝ }
 {
     let c = cc_test(buf, at, bits(i, 8, 5) as u8);
-    let pv = p(buf, c.pos, bits(i, 39, 3) as u8, bit(i, 42));
+    let pv = p_39(buf, c.pos, i);
     setp_both(buf, pv.pos, i, c.value, pv.value)
 }
 
@@ -150,9 +175,9 @@ pub fn set_either(buf: &mut [u8; 264], at: Pos, pair: bool, i: Insn, a: u8, b: u
 pub fn icompare(buf: &mut [u8; 264], at: Pos, pair: bool, i: Insn) -> Made
     ensures { λ m. ⌜ Does (view (now (buf .entry)) at) (seen (now (buf .exit)) m) (icompare pair i) [] ⌝ }
 {
-    let a = r(buf, at, ra(i));
+    let a = r_a(buf, at, i);
     let b = src_b(buf, a.pos, i);
-    let pv = p(buf, b.pos, bits(i, 39, 3) as u8, bit(i, 42));
+    let pv = p_39(buf, b.pos, i);
     let c = int_cmp(
         buf,
         pv.pos,
@@ -170,7 +195,7 @@ pub fn pcombine(buf: &mut [u8; 264], at: Pos, pair: bool, i: Insn) -> Made
 {
     let a = p(buf, at, bits(i, 12, 3) as u8, bit(i, 15));
     let b = p(buf, a.pos, bits(i, 29, 3) as u8, bit(i, 32));
-    let c = p(buf, b.pos, bits(i, 39, 3) as u8, bit(i, 42));
+    let c = p_39(buf, b.pos, i);
     let ab = bool_op(buf, c.pos, bits(i, 24, 2) as u8, a.value, b.value);
     set_either(buf, ab.pos, pair, i, ab.value, c.value)
 }
@@ -207,14 +232,12 @@ pub fn iadd_sum(buf: &mut [u8; 264], at: Pos, x: bool, one: bool, cc: bool, a: u
     ensures { λ m. ⌜ Does (view (now (buf .entry)) at) (seen (now (buf .exit)) m) (iaddSum x one cc) (a ∷ b ∷ []) ⌝ }
 {
     if x {
-        add_flag(buf, at, cc, a, b)
-    } else {
-        if one {
-            add_one(buf, at, cc, a, b)
-        } else {
-            add_with_flags(buf, at, cc, a, b)
-        }
+        return add_flag(buf, at, cc, a, b);
     }
+    if one {
+        return add_one(buf, at, cc, a, b);
+    }
+    add_with_flags(buf, at, cc, a, b)
 }
 
 pub fn iadd_of(
@@ -242,7 +265,7 @@ pub fn iadd_of(
 pub fn iadd(buf: &mut [u8; 264], at: Pos, i: Insn) -> Made
     ensures { λ m. ⌜ Does (view (now (buf .entry)) at) (seen (now (buf .exit)) m) (iadd i) [] ⌝ }
 {
-    let a = r(buf, at, ra(i));
+    let a = r_a(buf, at, i);
     let b = src_b(buf, a.pos, i);
     iadd_of(
         buf,
@@ -261,7 +284,7 @@ pub fn iadd(buf: &mut [u8; 264], at: Pos, i: Insn) -> Made
 pub fn iadd32i(buf: &mut [u8; 264], at: Pos, i: Insn) -> Made
     ensures { λ m. ⌜ Does (view (now (buf .entry)) at) (seen (now (buf .exit)) m) (iadd32i i) [] ⌝ }
 {
-    let a = r(buf, at, ra(i));
+    let a = r_a(buf, at, i);
     let b = u(buf, a.pos, imm32(i));
     iadd_of(
         buf,
@@ -280,14 +303,10 @@ pub fn iadd32i(buf: &mut [u8; 264], at: Pos, i: Insn) -> Made
 pub fn iadd3_shift(buf: &mut [u8; 264], at: Pos, s: u8, v: u8, n: u8) -> Made
     ensures { λ m. ⌜ Does (view (now (buf .entry)) at) (seen (now (buf .exit)) m) (iadd3Shift s) (v ∷ n ∷ []) ⌝ }
 {
-    if s == 1 {
-        two(buf, at, 44, v, n)
-    } else {
-        if s == 2 {
-            two(buf, at, 43, v, n)
-        } else {
-            Made { pos: at, value: v }
-        }
+    match s {
+        1 => two(buf, at, 44, v, n),
+        2 => two(buf, at, 43, v, n),
+        _ => Made { pos: at, value: v },
     }
 }
 
@@ -311,7 +330,7 @@ pub fn iadd3_of(buf: &mut [u8; 264], at: Pos, i: Insn, a: u8, b: u8, c: u8) -> M
     let sixteen = u(buf, ab.pos, 16);
     let ab2 = iadd3_shift(buf, sixteen.pos, iadd3_count(i), ab.value, sixteen.value);
     let v = iadd3_sum(buf, ab2.pos, bit(i, 48), bit(i, 47), ab2.value, c.value);
-    set(buf, v.pos, rd(i), v.value)
+    set_d(buf, v.pos, i, v.value)
 }
 
 // the register form takes halves of its operands
@@ -320,14 +339,14 @@ pub fn iadd3_fetch(buf: &mut [u8; 264], at: Pos, i: Insn, a: u8) -> Made
 {
     if i.form == 0 {
         let b = r(buf, at, rb(i));
-        let c = r(buf, b.pos, rc(i));
+        let c = r_c(buf, b.pos, i);
         let a = half_select(buf, c.pos, bits(i, 35, 2) as u8, a);
         let b2 = half_select(buf, a.pos, bits(i, 33, 2) as u8, b.value);
         let c2 = half_select(buf, b2.pos, bits(i, 31, 2) as u8, c.value);
         iadd3_of(buf, c2.pos, i, a.value, b2.value, c2.value)
     } else {
         let b = src_b(buf, at, i);
-        let c = r(buf, b.pos, rc(i));
+        let c = r_c(buf, b.pos, i);
         iadd3_of(buf, c.pos, i, a, b.value, c.value)
     }
 }
@@ -335,21 +354,21 @@ pub fn iadd3_fetch(buf: &mut [u8; 264], at: Pos, i: Insn, a: u8) -> Made
 pub fn iadd3(buf: &mut [u8; 264], at: Pos, i: Insn) -> Made
     ensures { λ m. ⌜ Does (view (now (buf .entry)) at) (seen (now (buf .exit)) m) (iadd3 i) [] ⌝ }
 {
-    let a = r(buf, at, ra(i));
+    let a = r_a(buf, at, i);
     iadd3_fetch(buf, a.pos, i, a.value)
 }
 
 pub fn iscadd(buf: &mut [u8; 264], at: Pos, i: Insn) -> Made
     ensures { λ m. ⌜ Does (view (now (buf .entry)) at) (seen (now (buf .exit)) m) (iscadd i) [] ⌝ }
 {
-    let a = r(buf, at, ra(i));
+    let a = r_a(buf, at, i);
     let a2 = ineg(buf, a.pos, bit(i, 49), a.value);
     let b = src_b(buf, a2.pos, i);
     let b2 = ineg(buf, b.pos, bit(i, 48), b.value);
     let sh = u(buf, b2.pos, bits(i, 39, 5) as u32);
     let a3 = two(buf, sh.pos, 43, a2.value, sh.value);
     let v = two(buf, a3.pos, 40, a3.value, b2.value);
-    set(buf, v.pos, rd(i), v.value)
+    set_d(buf, v.pos, i, v.value)
 }
 
 pub fn xmad_shift(buf: &mut [u8; 264], at: Pos, on: bool, v: u8) -> Made
@@ -369,24 +388,20 @@ pub fn xmad_alter(buf: &mut [u8; 264], at: Pos, mode: u8, c: u8, b: u8, n: u8) -
 {
     if mode == 1 {
         let m = u(buf, at, 0xffff);
-        two(buf, m.pos, 46, c, m.value)
-    } else {
-        if mode == 2 {
-            two(buf, at, 44, c, n)
-        } else {
-            if mode == 4 {
-                let bs = two(buf, at, 43, b, n);
-                two(buf, bs.pos, 40, c, bs.value)
-            } else {
-                if mode == 3 {
-                    let q = note(buf, at, 5);
-                    Made { pos: q, value: c }
-                } else {
-                    Made { pos: at, value: c }
-                }
-            }
-        }
+        return two(buf, m.pos, 46, c, m.value);
     }
+    if mode == 2 {
+        return two(buf, at, 44, c, n);
+    }
+    if mode == 4 {
+        let bs = two(buf, at, 43, b, n);
+        return two(buf, bs.pos, 40, c, bs.value);
+    }
+    if mode == 3 {
+        let q = note(buf, at, 5);
+        return Made { pos: q, value: c };
+    }
+    Made { pos: at, value: c }
 }
 
 // of v, b and sixteen
@@ -420,19 +435,19 @@ pub fn xmad_of(buf: &mut [u8; 264], at: Pos, i: Insn, a: u8, b: u8, c: u8) -> Ma
     let c = xmad_alter(buf, sixteen.pos, xmad_mode(i), c, b, sixteen.value);
     let v = two(buf, c.pos, 40, prod.value, c.value);
     let v2 = xmad_merge(buf, v.pos, xmad_mrg(i), v.value, b, sixteen.value);
-    set(buf, v2.pos, rd(i), v2.value)
+    set_d(buf, v2.pos, i, v2.value)
 }
 
 pub fn xmad_bc(buf: &mut [u8; 264], at: Pos, i: Insn, a: u8) -> Made
     ensures { λ m. ⌜ Does (view (now (buf .entry)) at) (seen (now (buf .exit)) m) (xmadBc i) (a ∷ []) ⌝ }
 {
     if both(i.form == 1, xmad_swaps(i)) {
-        let b = r(buf, at, rc(i));
-        let c = cbuf_imm(buf, b.pos, cslot(i), cword(i));
+        let b = r_c(buf, at, i);
+        let c = cbuf_imm(buf, b.pos, i);
         xmad_of(buf, c.pos, i, a, b.value, c.value)
     } else {
         let b = src_b(buf, at, i);
-        let c = r(buf, b.pos, rc(i));
+        let c = r_c(buf, b.pos, i);
         xmad_of(buf, c.pos, i, a, b.value, c.value)
     }
 }
@@ -442,7 +457,7 @@ pub fn xmad_fetch(buf: &mut [u8; 264], at: Pos, i: Insn, a: u8) -> Made
 {
     if i.form == 2 {
         let b = u(buf, at, bits(i, 20, 16) as u32);
-        let c = r(buf, b.pos, rc(i));
+        let c = r_c(buf, b.pos, i);
         xmad_of(buf, c.pos, i, a, b.value, c.value)
     } else {
         xmad_bc(buf, at, i, a)
@@ -452,7 +467,7 @@ pub fn xmad_fetch(buf: &mut [u8; 264], at: Pos, i: Insn, a: u8) -> Made
 pub fn xmad(buf: &mut [u8; 264], at: Pos, i: Insn) -> Made
     ensures { λ m. ⌜ Does (view (now (buf .entry)) at) (seen (now (buf .exit)) m) (xmad i) [] ⌝ }
 {
-    let a = r(buf, at, ra(i));
+    let a = r_a(buf, at, i);
     xmad_fetch(buf, a.pos, i, a.value)
 }
 
@@ -480,13 +495,13 @@ pub fn imnmx(buf: &mut [u8; 264], at: Pos, i: Insn) -> Made
     ensures { λ m. ⌜ Does (view (now (buf .entry)) at) (seen (now (buf .exit)) m) (imnmx i) [] ⌝ }
 {
     let bit48 = bit(i, 48);
-    let a = r(buf, at, ra(i));
+    let a = r_a(buf, at, i);
     let b = src_b(buf, a.pos, i);
-    let c = p(buf, b.pos, bits(i, 39, 3) as u8, bit(i, 42));
+    let c = p_39(buf, b.pos, i);
     let lo = min_of(buf, c.pos, bit48, a.value, b.value);
     let hi = max_of(buf, lo.pos, bit48, a.value, b.value);
     let v = three(buf, hi.pos, 90, c.value, lo.value, hi.value);
-    set(buf, v.pos, rd(i), v.value)
+    set_d(buf, v.pos, i, v.value)
 }
 
 pub fn icmp_of(buf: &mut [u8; 264], at: Pos, i: Insn, a: u8, b: u8, c: u8) -> Made
@@ -502,19 +517,19 @@ pub fn icmp_of(buf: &mut [u8; 264], at: Pos, i: Insn, a: u8, b: u8, c: u8) -> Ma
         zero.value,
     );
     let v = three(buf, t.pos, 90, t.value, a, b);
-    set(buf, v.pos, rd(i), v.value)
+    set_d(buf, v.pos, i, v.value)
 }
 
 pub fn icmp_bc(buf: &mut [u8; 264], at: Pos, i: Insn, a: u8) -> Made
     ensures { λ m. ⌜ Does (view (now (buf .entry)) at) (seen (now (buf .exit)) m) (icmpBc i) (a ∷ []) ⌝ }
 {
     if both(i.form == 1, icmp_swaps(i)) {
-        let b = r(buf, at, rc(i));
-        let c = cbuf_imm(buf, b.pos, cslot(i), cword(i));
+        let b = r_c(buf, at, i);
+        let c = cbuf_imm(buf, b.pos, i);
         icmp_of(buf, c.pos, i, a, b.value, c.value)
     } else {
         let b = src_b(buf, at, i);
-        let c = r(buf, b.pos, rc(i));
+        let c = r_c(buf, b.pos, i);
         icmp_of(buf, c.pos, i, a, b.value, c.value)
     }
 }
@@ -522,25 +537,18 @@ pub fn icmp_bc(buf: &mut [u8; 264], at: Pos, i: Insn, a: u8) -> Made
 pub fn icmp(buf: &mut [u8; 264], at: Pos, i: Insn) -> Made
     ensures { λ m. ⌜ Does (view (now (buf .entry)) at) (seen (now (buf .exit)) m) (icmp i) [] ⌝ }
 {
-    let a = r(buf, at, ra(i));
+    let a = r_a(buf, at, i);
     icmp_bc(buf, a.pos, i, a.value)
 }
 
 pub fn lop_word(buf: &mut [u8; 264], at: Pos, o: u8, a: u8, b: u8) -> Made
     ensures { λ m. ⌜ Does (view (now (buf .entry)) at) (seen (now (buf .exit)) m) (lopWord o) (a ∷ b ∷ []) ⌝ }
 {
-    if o == 0 {
-        two(buf, at, 46, a, b)
-    } else {
-        if o == 1 {
-            two(buf, at, 47, a, b)
-        } else {
-            if o == 2 {
-                two(buf, at, 48, a, b)
-            } else {
-                Made { pos: at, value: b }
-            }
-        }
+    match o {
+        0 => two(buf, at, 46, a, b),
+        1 => two(buf, at, 47, a, b),
+        2 => two(buf, at, 48, a, b),
+        _ => Made { pos: at, value: b },
     }
 }
 
@@ -548,18 +556,11 @@ pub fn lop_word(buf: &mut [u8; 264], at: Pos, o: u8, a: u8, b: u8) -> Made
 pub fn lop_test(buf: &mut [u8; 264], at: Pos, t: u8, v: u8, z: u8) -> Made
     ensures { λ m. ⌜ Does (view (now (buf .entry)) at) (seen (now (buf .exit)) m) (lopTest t) (v ∷ z ∷ []) ⌝ }
 {
-    if t == 2 {
-        two(buf, at, 60, v, z)
-    } else {
-        if t == 3 {
-            two(buf, at, 61, v, z)
-        } else {
-            if t == 1 {
-                truth(buf, at, 2)
-            } else {
-                truth(buf, at, 3)
-            }
-        }
+    match t {
+        2 => two(buf, at, 60, v, z),
+        3 => two(buf, at, 61, v, z),
+        1 => truth(buf, at, 2),
+        _ => truth(buf, at, 3),
     }
 }
 
@@ -582,44 +583,44 @@ pub fn lop(buf: &mut [u8; 264], at: Pos, i: Insn) -> Made
     ensures { λ m. ⌜ Does (view (now (buf .entry)) at) (seen (now (buf .exit)) m) (lop i) [] ⌝ }
 {
     let b = src_b(buf, at, i);
-    let a = r(buf, b.pos, ra(i));
+    let a = r_a(buf, b.pos, i);
     let a2 = inot(buf, a.pos, bit(i, 39), a.value);
     let b2 = inot(buf, a2.pos, bit(i, 40), b.value);
     let v = lop_word(buf, b2.pos, bits(i, 41, 2) as u8, a2.value, b2.value);
     let v2 = set_cc_none(buf, v.pos, bit(i, 47), v.value);
     let v3 = lop_predicate(buf, v2.pos, i, v2.value);
-    set(buf, v3.pos, rd(i), v3.value)
+    set_d(buf, v3.pos, i, v3.value)
 }
 
 pub fn lop32i(buf: &mut [u8; 264], at: Pos, i: Insn) -> Made
     ensures { λ m. ⌜ Does (view (now (buf .entry)) at) (seen (now (buf .exit)) m) (lop32i i) [] ⌝ }
 {
     let b = u(buf, at, imm32(i));
-    let a = r(buf, b.pos, ra(i));
+    let a = r_a(buf, b.pos, i);
     let a2 = inot(buf, a.pos, bit(i, 55), a.value);
     let b2 = inot(buf, a2.pos, bit(i, 56), b.value);
     let v = lop_word(buf, b2.pos, bits(i, 53, 2) as u8, a2.value, b2.value);
     let v2 = set_cc_none(buf, v.pos, bit(i, 52), v.value);
-    set(buf, v2.pos, rd(i), v2.value)
+    set_d(buf, v2.pos, i, v2.value)
 }
 
 pub fn lop3_arm(buf: &mut [u8; 264], at: Pos, i: Insn) -> Made
     ensures { λ m. ⌜ Does (view (now (buf .entry)) at) (seen (now (buf .exit)) m) (lop3Arm i) [] ⌝ }
 {
-    let a = r(buf, at, ra(i));
+    let a = r_a(buf, at, i);
     let b = src_b(buf, a.pos, i);
-    let c = r(buf, b.pos, rc(i));
+    let c = r_c(buf, b.pos, i);
     let v = lop3(buf, c.pos, lop3_table(i), a.value, b.value, c.value);
-    set(buf, v.pos, rd(i), v.value)
+    set_d(buf, v.pos, i, v.value)
 }
 
 pub fn shl(buf: &mut [u8; 264], at: Pos, i: Insn) -> Made
     ensures { λ m. ⌜ Does (view (now (buf .entry)) at) (seen (now (buf .exit)) m) (shl i) [] ⌝ }
 {
-    let a = r(buf, at, ra(i));
+    let a = r_a(buf, at, i);
     let b = src_b(buf, a.pos, i);
     let v = shift(buf, b.pos, true, false, bit(i, 39), a.value, b.value);
-    set(buf, v.pos, rd(i), v.value)
+    set_d(buf, v.pos, i, v.value)
 }
 
 pub fn reverse_if(buf: &mut [u8; 264], at: Pos, on: bool, v: u8) -> Made
@@ -635,7 +636,7 @@ pub fn reverse_if(buf: &mut [u8; 264], at: Pos, on: bool, v: u8) -> Made
 pub fn shr(buf: &mut [u8; 264], at: Pos, i: Insn) -> Made
     ensures { λ m. ⌜ Does (view (now (buf .entry)) at) (seen (now (buf .exit)) m) (shr i) [] ⌝ }
 {
-    let a = r(buf, at, ra(i));
+    let a = r_a(buf, at, i);
     let b = src_b(buf, a.pos, i);
     let a2 = reverse_if(buf, b.pos, bit(i, 40), a.value);
     let v = shift(
@@ -647,7 +648,7 @@ pub fn shr(buf: &mut [u8; 264], at: Pos, i: Insn) -> Made
         a2.value,
         b.value,
     );
-    set(buf, v.pos, rd(i), v.value)
+    set_d(buf, v.pos, i, v.value)
 }
 
 pub fn insert_field(buf: &mut [u8; 264], at: Pos, c: u8, a: u8, pos: u8, len: u8) -> Made
@@ -716,30 +717,30 @@ pub fn field_of(
 pub fn bfe(buf: &mut [u8; 264], at: Pos, i: Insn) -> Made
     ensures { λ m. ⌜ Does (view (now (buf .entry)) at) (seen (now (buf .exit)) m) (bfe i) [] ⌝ }
 {
-    let a = r(buf, at, ra(i));
+    let a = r_a(buf, at, i);
     let b = src_b(buf, a.pos, i);
     let a2 = reverse_if(buf, b.pos, bit(i, 40), a.value);
     let v = field_of(buf, a2.pos, false, bit(i, 48), a2.value, a2.value, b.value);
-    set(buf, v.pos, rd(i), v.value)
+    set_d(buf, v.pos, i, v.value)
 }
 
 pub fn bfi_of(buf: &mut [u8; 264], at: Pos, i: Insn, a: u8, b: u8, c: u8) -> Made
     ensures { λ m. ⌜ Does (view (now (buf .entry)) at) (seen (now (buf .exit)) m) (bfiOf i) (a ∷ b ∷ c ∷ []) ⌝ }
 {
     let v = field_of(buf, at, true, false, c, a, b);
-    set(buf, v.pos, rd(i), v.value)
+    set_d(buf, v.pos, i, v.value)
 }
 
 pub fn bfi_bc(buf: &mut [u8; 264], at: Pos, i: Insn, a: u8) -> Made
     ensures { λ m. ⌜ Does (view (now (buf .entry)) at) (seen (now (buf .exit)) m) (bfiBc i) (a ∷ []) ⌝ }
 {
     if both(i.form == 1, bfi_swaps(i)) {
-        let b = r(buf, at, rc(i));
-        let c = cbuf_imm(buf, b.pos, cslot(i), cword(i));
+        let b = r_c(buf, at, i);
+        let c = cbuf_imm(buf, b.pos, i);
         bfi_of(buf, c.pos, i, a, b.value, c.value)
     } else {
         let b = src_b(buf, at, i);
-        let c = r(buf, b.pos, rc(i));
+        let c = r_c(buf, b.pos, i);
         bfi_of(buf, c.pos, i, a, b.value, c.value)
     }
 }
@@ -747,7 +748,7 @@ pub fn bfi_bc(buf: &mut [u8; 264], at: Pos, i: Insn, a: u8) -> Made
 pub fn bfi(buf: &mut [u8; 264], at: Pos, i: Insn) -> Made
     ensures { λ m. ⌜ Does (view (now (buf .entry)) at) (seen (now (buf .exit)) m) (bfi i) [] ⌝ }
 {
-    let a = r(buf, at, ra(i));
+    let a = r_a(buf, at, i);
     bfi_bc(buf, a.pos, i, a.value)
 }
 
@@ -809,16 +810,14 @@ pub fn vmnmx_word(
     ensures { λ m. ⌜ Does (view (now (buf .entry)) at) (seen (now (buf .exit)) m) (vmnmxWord sa sb max) (a ∷ b ∷ zero ∷ []) ⌝ }
 {
     if sa == sb {
-        min_or_max(buf, at, max, sa, a, b)
-    } else {
-        if sa {
-            let v = vmnmx_first(buf, at, max, a, b);
-            vmnmx_mixed(buf, v.pos, max, v.value, a, b, zero)
-        } else {
-            let v = vmnmx_first(buf, at, max, a, b);
-            vmnmx_mixed(buf, v.pos, max, v.value, b, a, zero)
-        }
+        return min_or_max(buf, at, max, sa, a, b);
     }
+    if sa {
+        let v = vmnmx_first(buf, at, max, a, b);
+        return vmnmx_mixed(buf, v.pos, max, v.value, a, b, zero);
+    }
+    let v = vmnmx_first(buf, at, max, a, b);
+    vmnmx_mixed(buf, v.pos, max, v.value, b, a, zero)
 }
 
 // saturation, of the result and zero
@@ -835,14 +834,12 @@ pub fn vmnmx_saturate(
 {
     if both(on, both(dformat, !signed)) {
         let m = u(buf, at, 0x7fff_ffff);
-        two(buf, m.pos, 49, v, m.value)
-    } else {
-        if both(on, both(!dformat, signed)) {
-            two(buf, at, 52, v, zero)
-        } else {
-            Made { pos: at, value: v }
-        }
+        return two(buf, m.pos, 49, v, m.value);
     }
+    if both(on, both(!dformat, signed)) {
+        return two(buf, at, 52, v, zero);
+    }
+    Made { pos: at, value: v }
 }
 
 pub fn vmnmx_insert(buf: &mut [u8; 264], at: Pos, pos: u32, len: u32, v: u8, c: u8) -> Made
@@ -857,34 +854,15 @@ pub fn vmnmx_insert(buf: &mut [u8; 264], at: Pos, pos: u32, len: u32, v: u8, c: 
 pub fn vmnmx_merge(buf: &mut [u8; 264], at: Pos, mode: u8, dformat: bool, v: u8, c: u8) -> Made
     ensures { λ m. ⌜ Does (view (now (buf .entry)) at) (seen (now (buf .exit)) m) (vmnmxMerge mode dformat) (v ∷ c ∷ []) ⌝ }
 {
-    if mode == 0 {
-        vmnmx_insert(buf, at, 16, 16, v, c)
-    } else {
-        if mode == 1 {
-            vmnmx_insert(buf, at, 0, 16, v, c)
-        } else {
-            if mode == 2 {
-                vmnmx_insert(buf, at, 0, 8, v, c)
-            } else {
-                if mode == 3 {
-                    vmnmx_insert(buf, at, 16, 8, v, c)
-                } else {
-                    if mode == 4 {
-                        two(buf, at, 40, v, c)
-                    } else {
-                        if mode == 5 {
-                            min_of(buf, at, dformat, v, c)
-                        } else {
-                            if mode == 6 {
-                                max_of(buf, at, dformat, v, c)
-                            } else {
-                                Made { pos: at, value: v }
-                            }
-                        }
-                    }
-                }
-            }
-        }
+    match mode {
+        0 => vmnmx_insert(buf, at, 16, 16, v, c),
+        1 => vmnmx_insert(buf, at, 0, 16, v, c),
+        2 => vmnmx_insert(buf, at, 0, 8, v, c),
+        3 => vmnmx_insert(buf, at, 16, 8, v, c),
+        4 => two(buf, at, 40, v, c),
+        5 => min_of(buf, at, dformat, v, c),
+        6 => max_of(buf, at, dformat, v, c),
+        _ => Made { pos: at, value: v },
     }
 }
 
@@ -907,16 +885,16 @@ pub fn vmnmx_of(buf: &mut [u8; 264], at: Pos, i: Insn, a: u8, b: u8, c: u8) -> M
         zero.value,
     );
     let v3 = vmnmx_merge(buf, v2.pos, bits(i, 51, 3) as u8, bit54, v2.value, c);
-    set(buf, v3.pos, rd(i), v3.value)
+    set_d(buf, v3.pos, i, v3.value)
 }
 
 pub fn vmnmx(buf: &mut [u8; 264], at: Pos, i: Insn) -> Made
     ensures { λ m. ⌜ Does (view (now (buf .entry)) at) (seen (now (buf .exit)) m) (vmnmx i) [] ⌝ }
 {
-    let a = r(buf, at, ra(i));
+    let a = r_a(buf, at, i);
     let a2 = video_operand(buf, a.pos, bits(i, 36, 3) as u8, bit(i, 48), a.value);
     let b = vmnmx_b(buf, a2.pos, i);
-    let c = r(buf, b.pos, rc(i));
+    let c = r_c(buf, b.pos, i);
     vmnmx_of(buf, c.pos, i, a2.value, b.value, c.value)
 }
 
@@ -969,7 +947,7 @@ pub fn i2i(buf: &mut [u8; 264], at: Pos, i: Insn) -> Made
     let v3 = ineg(buf, v2.pos, bit(i, 45), v2.value);
     let v4 = saturate_if(buf, v3.pos, bit(i, 50), bit13, bit12, bits8, v3.value);
     let v5 = int_source(buf, v4.pos, bits8, bit12, 0, v4.value);
-    set(buf, v5.pos, rd(i), v5.value)
+    set_d(buf, v5.pos, i, v5.value)
 }
 
 pub fn find_msb(buf: &mut [u8; 264], at: Pos, signed: bool, v: u8) -> Made
@@ -1003,7 +981,7 @@ pub fn flo(buf: &mut [u8; 264], at: Pos, i: Insn) -> Made
     let b2 = inot(buf, b.pos, bit(i, 40), b.value);
     let v = find_msb(buf, b2.pos, bit(i, 48), b2.value);
     let v2 = flo_shift(buf, v.pos, bit(i, 41), v.value);
-    set(buf, v2.pos, rd(i), v2.value)
+    set_d(buf, v2.pos, i, v2.value)
 }
 
 pub fn popc(buf: &mut [u8; 264], at: Pos, i: Insn) -> Made
@@ -1012,7 +990,7 @@ pub fn popc(buf: &mut [u8; 264], at: Pos, i: Insn) -> Made
     let b = src_b(buf, at, i);
     let b2 = inot(buf, b.pos, bit(i, 40), b.value);
     let v = one(buf, b2.pos, 22, b2.value);
-    set(buf, v.pos, rd(i), v.value)
+    set_d(buf, v.pos, i, v.value)
 }
 
 pub fn note_unless(buf: &mut [u8; 264], at: Pos, on: bool, n: u8, v: u8) -> Made
@@ -1070,7 +1048,7 @@ pub fn r2p_turns(buf: &mut [u8; 264], at: Pos, i: Insn, a: u8) -> Made
 pub fn r2p(buf: &mut [u8; 264], at: Pos, i: Insn) -> Made
     ensures { λ m. ⌜ Does (view (now (buf .entry)) at) (seen (now (buf .exit)) m) (r2p i) [] ⌝ }
 {
-    let a = r(buf, at, ra(i));
+    let a = r_a(buf, at, i);
     let a2 = note_unless(buf, a.pos, i.form == 2, 2, a.value);
     r2p_turns(buf, a2.pos, i, a2.value)
 }
@@ -1113,12 +1091,12 @@ pub fn p2r_turns(buf: &mut [u8; 264], at: Pos, i: Insn, v: u8) -> Made
 pub fn p2r(buf: &mut [u8; 264], at: Pos, i: Insn) -> Made
     ensures { λ m. ⌜ Does (view (now (buf .entry)) at) (seen (now (buf .exit)) m) (p2r i) [] ⌝ }
 {
-    let a = r(buf, at, ra(i));
+    let a = r_a(buf, at, i);
     let a2 = note_unless(buf, a.pos, i.form == 2, 3, a.value);
     let keep = u(buf, a2.pos, p2r_keep(i));
     let v = two(buf, keep.pos, 46, a2.value, keep.value);
     let v2 = p2r_turns(buf, v.pos, i, v.value);
-    set(buf, v2.pos, rd(i), v2.value)
+    set_d(buf, v2.pos, i, v2.value)
 }
 
 pub fn shf_amount(buf: &mut [u8; 264], at: Pos, wrap: bool, n: u8, c31: u8, c32: u8) -> Made
@@ -1185,15 +1163,15 @@ pub fn shf_of(buf: &mut [u8; 264], at: Pos, i: Insn, low: u8, n: u8, high: u8) -
         c32.value,
     );
     let v2 = note_unless(buf, v.pos, shf_plain(i), 4, v.value);
-    set(buf, v2.pos, rd(i), v2.value)
+    set_d(buf, v2.pos, i, v2.value)
 }
 
 pub fn shf(buf: &mut [u8; 264], at: Pos, i: Insn) -> Made
     ensures { λ m. ⌜ Does (view (now (buf .entry)) at) (seen (now (buf .exit)) m) (shf i) [] ⌝ }
 {
-    let low = r(buf, at, ra(i));
+    let low = r_a(buf, at, i);
     let n = src_b(buf, low.pos, i);
-    let high = r(buf, n.pos, rc(i));
+    let high = r_c(buf, n.pos, i);
     shf_of(buf, high.pos, i, low.value, n.value, high.value)
 }
 
@@ -1201,14 +1179,12 @@ pub fn lea_b(buf: &mut [u8; 264], at: Pos, i: Insn) -> Made
     ensures { λ m. ⌜ Does (view (now (buf .entry)) at) (seen (now (buf .exit)) m) (leaB i) [] ⌝ }
 {
     if lea_reg(i) {
-        r(buf, at, rb(i))
-    } else {
-        if lea_cbuf(i) {
-            cbuf_imm(buf, at, cslot(i), cword(i))
-        } else {
-            src_b(buf, at, i)
-        }
+        return r(buf, at, rb(i));
     }
+    if lea_cbuf(i) {
+        return cbuf_imm(buf, at, i);
+    }
+    src_b(buf, at, i)
 }
 
 // of c, x and y: c alone where nothing is shifted
@@ -1227,7 +1203,7 @@ pub fn lea_word(buf: &mut [u8; 264], at: Pos, i: Insn, a: u8) -> Made
 {
     if lea_high(i) {
         let sh = lea_shift(i);
-        let c = r(buf, at, rc(i));
+        let c = r_c(buf, at, i);
         let s = u(buf, c.pos, sh as u32);
         let inv = u(buf, s.pos, 32 - sh as u32);
         let x = two(buf, inv.pos, 43, c.value, s.value);
@@ -1242,10 +1218,10 @@ pub fn lea_word(buf: &mut [u8; 264], at: Pos, i: Insn, a: u8) -> Made
 pub fn lea(buf: &mut [u8; 264], at: Pos, i: Insn) -> Made
     ensures { λ m. ⌜ Does (view (now (buf .entry)) at) (seen (now (buf .exit)) m) (lea i) [] ⌝ }
 {
-    let a = r(buf, at, ra(i));
+    let a = r_a(buf, at, i);
     let b = lea_b(buf, a.pos, i);
     let a2 = ineg(buf, b.pos, lea_negates(i), a.value);
     let x = lea_word(buf, a2.pos, i, a2.value);
     let v = two(buf, x.pos, 40, x.value, b.value);
-    set(buf, v.pos, rd(i), v.value)
+    set_d(buf, v.pos, i, v.value)
 }

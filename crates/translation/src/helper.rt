@@ -1,7 +1,8 @@
 // The Rust's helpers (translate.rs): each writes the entries of its definition in specs/Helpers.antt.
 ghost use mathlib.Core.List.{[], _∷_};
 ghost use Prim.Native.Nat.{_<_, _≤_};
-ghost use Rattle.translation.specs.Helpers.{addWithCarry, addWithFlags, b2u, boolOp, carryFlag, cbufAt, cbufImm, ccCase, ccTest, clampHigh, extract, field, greaterThan, greaterThanEqual, half16, halfSelect, ineg, inot, intCmp, intSource, lessThan, lessThanEqual, logicalNotIf, lop3, lop3Row, lop3Rows, p, predicate, r, saturateAdd, saturateBy, saturateInt, set, setCc, setCcNone, setSumCc, setp, shift, shiftEnd, shiftFill, shifted, signedOverflow, srcB, videoOperand};
+ghost use Rattle.translation.specs.Helpers.{addWithCarry, addWithFlags, b2u, boolOp, carryFlag, cbufAt, cbufImm, ccCase, ccFlags, ccTest, clampHigh, extract, field, greaterThan, greaterThanEqual, half16, halfSelect, ineg, inot, intCmp, intSource, lessThan, lessThanEqual, logicalNotIf, lop3, lop3Row, lop3Rows, p, predicate, r, saturateAdd, saturateBy, saturateInt, set, setCc, setCcNone, setSumCc, setp, shift, shiftEnd, shiftFill, shifted, signedOverflow, srcB, videoOperand};
+ghost use Rattle.translation.specs.Insn.{cslot, cword};
 ghost use Rattle.translation.specs.Emit.{view, seen, Does};
 use crate::insn::Insn;
 use crate::insn::cslot;
@@ -117,28 +118,25 @@ pub fn cbuf_at(buf: &mut [u8; 264], at: Pos, s: u8, off: u8) -> Made
     one(buf, ptr.pos, 12, ptr.value)
 }
 
-// the word w of slot s: the Rust's offset is four times w
-pub fn cbuf_imm(buf: &mut [u8; 264], at: Pos, s: u8, w: u16) -> Made
-    requires { ⌜ w < 16384 ⌝ }
-    ensures { λ m. ⌜ Does (view (now (buf .entry)) at) (seen (now (buf .exit)) m) (cbufImm s w) [] ⌝ }
+// the word of an instruction's constant slot: the Rust's offset is four times its number
+pub fn cbuf_imm(buf: &mut [u8; 264], at: Pos, i: Insn) -> Made
+    ensures { λ m. ⌜ Does (view (now (buf .entry)) at) (seen (now (buf .exit)) m) (cbufImm (cslot i) (cword i)) [] ⌝ }
 {
-    let q = mark(at, s, w);
-    let off = u(buf, q, w as u32 * 4);
-    cbuf_at(buf, off.pos, s, off.value)
+    let q = mark(at, i);
+    let off = u(buf, q, cword(i) as u32 * 4);
+    cbuf_at(buf, off.pos, cslot(i), off.value)
 }
 
 pub fn src_b(buf: &mut [u8; 264], at: Pos, i: Insn) -> Made
     ensures { λ m. ⌜ Does (view (now (buf .entry)) at) (seen (now (buf .exit)) m) (srcB i) [] ⌝ }
 {
     if i.form == 0 {
-        r(buf, at, rb(i))
-    } else {
-        if i.form == 1 {
-            cbuf_imm(buf, at, cslot(i), cword(i))
-        } else {
-            u(buf, at, simm20(i))
-        }
+        return r(buf, at, rb(i));
     }
+    if i.form == 1 {
+        return cbuf_imm(buf, at, i);
+    }
+    u(buf, at, simm20(i))
 }
 
 pub fn inot(buf: &mut [u8; 264], at: Pos, on: bool, v: u8) -> Made
@@ -265,14 +263,10 @@ pub fn saturate_add(buf: &mut [u8; 264], at: Pos, on: bool, a: u8, b: u8, v: u8)
 pub fn bool_op(buf: &mut [u8; 264], at: Pos, o: u8, a: u8, b: u8) -> Made
     ensures { λ m. ⌜ Does (view (now (buf .entry)) at) (seen (now (buf .exit)) m) (boolOp o) (a ∷ b ∷ []) ⌝ }
 {
-    if o == 0 {
-        two(buf, at, 81, a, b)
-    } else {
-        if o == 1 {
-            two(buf, at, 82, a, b)
-        } else {
-            two(buf, at, 83, a, b)
-        }
+    match o {
+        0 => two(buf, at, 81, a, b),
+        1 => two(buf, at, 82, a, b),
+        _ => two(buf, at, 83, a, b),
     }
 }
 
@@ -319,106 +313,79 @@ pub fn greater_than_equal(buf: &mut [u8; 264], at: Pos, signed: bool, a: u8, b: 
 pub fn int_cmp(buf: &mut [u8; 264], at: Pos, o: u8, signed: bool, a: u8, b: u8) -> Made
     ensures { λ m. ⌜ Does (view (now (buf .entry)) at) (seen (now (buf .exit)) m) (intCmp o signed) (a ∷ b ∷ []) ⌝ }
 {
-    if o == 0 {
-        truth(buf, at, 3)
-    } else {
-        if o == 1 {
-            less_than(buf, at, signed, a, b)
-        } else {
-            if o == 2 {
-                two(buf, at, 60, a, b)
-            } else {
-                if o == 3 {
-                    less_than_equal(buf, at, signed, a, b)
-                } else {
-                    if o == 4 {
-                        greater_than(buf, at, signed, a, b)
-                    } else {
-                        if o == 5 {
-                            two(buf, at, 61, a, b)
-                        } else {
-                            if o == 6 {
-                                greater_than_equal(buf, at, signed, a, b)
-                            } else {
-                                truth(buf, at, 2)
-                            }
-                        }
-                    }
-                }
-            }
-        }
+    match o {
+        0 => truth(buf, at, 3),
+        1 => less_than(buf, at, signed, a, b),
+        2 => two(buf, at, 60, a, b),
+        3 => less_than_equal(buf, at, signed, a, b),
+        4 => greater_than(buf, at, signed, a, b),
+        5 => two(buf, at, 61, a, b),
+        6 => greater_than_equal(buf, at, signed, a, b),
+        _ => truth(buf, at, 2),
     }
 }
 
-// the cases of `cc_test`, of z, s, c, o and lt
+// the cases of `cc_test` that ask for single flags, of z, s, c and o
+pub fn cc_flags(buf: &mut [u8; 264], at: Pos, t: u8, z: u8, s: u8, c: u8, o: u8) -> Made
+    ensures { λ m. ⌜ Does (view (now (buf .entry)) at) (seen (now (buf .exit)) m) (ccFlags t) (z ∷ s ∷ c ∷ o ∷ []) ⌝ }
+{
+    if t == 7 {
+        return one(buf, at, 80, o);
+    }
+    if either(t == 8, t == 23) {
+        return Made { pos: at, value: o };
+    }
+    if t == 17 {
+        return one(buf, at, 80, c);
+    }
+    if t == 18 {
+        return one(buf, at, 80, s);
+    }
+    if t == 19 {
+        let nc = one(buf, at, 80, c);
+        return two(buf, nc.pos, 82, nc.value, z);
+    }
+    if t == 20 {
+        let nz = one(buf, at, 80, z);
+        return two(buf, nz.pos, 81, c, nz.value);
+    }
+    if t == 21 {
+        return Made { pos: at, value: s };
+    }
+    if t == 22 {
+        return Made { pos: at, value: c };
+    }
+    let q = note(buf, at, 1);
+    truth(buf, q, 2)
+}
+
+// all of them, of z, s, c, o and lt: first those that compare
 pub fn cc_case(buf: &mut [u8; 264], at: Pos, t: u8, z: u8, s: u8, c: u8, o: u8, lt: u8) -> Made
     ensures { λ m. ⌜ Does (view (now (buf .entry)) at) (seen (now (buf .exit)) m) (ccCase t) (z ∷ s ∷ c ∷ o ∷ lt ∷ []) ⌝ }
 {
     if either(t == 0, t == 16) {
-        truth(buf, at, 3)
-    } else {
-        if either(t == 1, t == 9) {
-            Made { pos: at, value: lt }
-        } else {
-            if either(t == 2, t == 10) {
-                Made { pos: at, value: z }
-            } else {
-                if either(t == 3, t == 11) {
-                    two(buf, at, 82, lt, z)
-                } else {
-                    if either(t == 4, t == 12) {
-                        let le = two(buf, at, 82, lt, z);
-                        one(buf, le.pos, 80, le.value)
-                    } else {
-                        if either(t == 5, t == 13) {
-                            one(buf, at, 80, z)
-                        } else {
-                            if either(t == 6, t == 14) {
-                                one(buf, at, 80, lt)
-                            } else {
-                                if t == 7 {
-                                    one(buf, at, 80, o)
-                                } else {
-                                    if either(t == 8, t == 23) {
-                                        Made { pos: at, value: o }
-                                    } else {
-                                        if t == 17 {
-                                            one(buf, at, 80, c)
-                                        } else {
-                                            if t == 18 {
-                                                one(buf, at, 80, s)
-                                            } else {
-                                                if t == 19 {
-                                                    let nc = one(buf, at, 80, c);
-                                                    two(buf, nc.pos, 82, nc.value, z)
-                                                } else {
-                                                    if t == 20 {
-                                                        let nz = one(buf, at, 80, z);
-                                                        two(buf, nz.pos, 81, c, nz.value)
-                                                    } else {
-                                                        if t == 21 {
-                                                            Made { pos: at, value: s }
-                                                        } else {
-                                                            if t == 22 {
-                                                                Made { pos: at, value: c }
-                                                            } else {
-                                                                let q = note(buf, at, 1);
-                                                                truth(buf, q, 2)
-                                                            }
-                                                        }
-                                                    }
-                                                }
-                                            }
-                                        }
-                                    }
-                                }
-                            }
-                        }
-                    }
-                }
-            }
-        }
+        return truth(buf, at, 3);
     }
+    if either(t == 1, t == 9) {
+        return Made { pos: at, value: lt };
+    }
+    if either(t == 2, t == 10) {
+        return Made { pos: at, value: z };
+    }
+    if either(t == 3, t == 11) {
+        return two(buf, at, 82, lt, z);
+    }
+    if either(t == 4, t == 12) {
+        let le = two(buf, at, 82, lt, z);
+        return one(buf, le.pos, 80, le.value);
+    }
+    if either(t == 5, t == 13) {
+        return one(buf, at, 80, z);
+    }
+    if either(t == 6, t == 14) {
+        return one(buf, at, 80, lt);
+    }
+    cc_flags(buf, at, t, z, s, c, o)
 }
 
 pub fn cc_test(buf: &mut [u8; 264], at: Pos, t: u8) -> Made
@@ -436,14 +403,12 @@ pub fn shifted(buf: &mut [u8; 264], at: Pos, left: bool, signed: bool, a: u8, n:
     ensures { λ m. ⌜ Does (view (now (buf .entry)) at) (seen (now (buf .exit)) m) (shifted left signed) (a ∷ n ∷ []) ⌝ }
 {
     if left {
-        two(buf, at, 43, a, n)
-    } else {
-        if signed {
-            two(buf, at, 45, a, n)
-        } else {
-            two(buf, at, 44, a, n)
-        }
+        return two(buf, at, 43, a, n);
     }
+    if signed {
+        return two(buf, at, 45, a, n);
+    }
+    two(buf, at, 44, a, n)
 }
 
 // what is left behind a count of 32 or more
@@ -587,42 +552,36 @@ pub fn half_select(buf: &mut [u8; 264], at: Pos, sel: u8, v: u8) -> Made
     ensures { λ m. ⌜ Does (view (now (buf .entry)) at) (seen (now (buf .exit)) m) (halfSelect sel) (v ∷ []) ⌝ }
 {
     if sel == 1 {
-        half16(buf, at, false, false, v)
-    } else {
-        if sel == 2 {
-            half16(buf, at, true, false, v)
-        } else {
-            Made { pos: at, value: v }
-        }
+        return half16(buf, at, false, false, v);
     }
+    if sel == 2 {
+        return half16(buf, at, true, false, v);
+    }
+    Made { pos: at, value: v }
 }
 
 pub fn video_operand(buf: &mut [u8; 264], at: Pos, sel: u8, signed: bool, v: u8) -> Made
     ensures { λ m. ⌜ Does (view (now (buf .entry)) at) (seen (now (buf .exit)) m) (videoOperand sel signed) (v ∷ []) ⌝ }
 {
     if sel < 4 {
-        field(buf, at, sel as u32 * 8, 8, signed, v)
-    } else {
-        if sel < 6 {
-            field(buf, at, (sel as u32 - 4) * 16, 16, signed, v)
-        } else {
-            Made { pos: at, value: v }
-        }
+        return field(buf, at, sel as u32 * 8, 8, signed, v);
     }
+    if sel < 6 {
+        return field(buf, at, (sel as u32 - 4) * 16, 16, signed, v);
+    }
+    Made { pos: at, value: v }
 }
 
 pub fn int_source(buf: &mut [u8; 264], at: Pos, size: u8, signed: bool, byte: u8, v: u8) -> Made
     ensures { λ m. ⌜ Does (view (now (buf .entry)) at) (seen (now (buf .exit)) m) (intSource size signed byte) (v ∷ []) ⌝ }
 {
     if size == 0 {
-        field(buf, at, byte as u32 * 8, 8, signed, v)
-    } else {
-        if size == 1 {
-            field(buf, at, byte as u32 * 8, 16, signed, v)
-        } else {
-            Made { pos: at, value: v }
-        }
+        return field(buf, at, byte as u32 * 8, 8, signed, v);
     }
+    if size == 1 {
+        return field(buf, at, byte as u32 * 8, 16, signed, v);
+    }
+    Made { pos: at, value: v }
 }
 
 pub fn clamp_high(buf: &mut [u8; 264], at: Pos, on: bool, x: u8, hi: u8) -> Made

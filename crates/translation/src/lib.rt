@@ -9,5 +9,6 @@ mod writer;
 pub use answer::Outcome;
 pub use answer::Refusal;
 pub use answer::Translated;
+pub use answer::refusal_number;
 pub use answer::translate;
 pub use insn::Insn;

@@ -47,16 +47,16 @@ pub fn iadd3_count(i: Insn) -> u8
     if i.form == 0 { bits(i, 37, 2) as u8 } else { 0 }
 }
 
-fn xmad_in_c(i: Insn) -> bool
-    ensures { λ r. ⌜ r ≡ xmadInC i ⌝ }
-{
-    both(i.form == 1, i.value == 0x5100_0000_0000_0000)
-}
-
 pub fn xmad_swaps(i: Insn) -> bool
     ensures { λ r. ⌜ r ≡ xmadSwaps i ⌝ }
 {
     i.value == 0x5100_0000_0000_0000
+}
+
+fn xmad_in_c(i: Insn) -> bool
+    ensures { λ r. ⌜ r ≡ xmadInC i ⌝ }
+{
+    both(i.form == 1, xmad_swaps(i))
 }
 
 pub fn icmp_swaps(i: Insn) -> bool

@@ -2,8 +2,12 @@
 // counted modulo 256, and the buffer has 8 bytes beyond, which is the longest body. No strip comes near it.
 ghost use mathlib.Core.Path.{_≡_};
 ghost use mathlib.Core.List.{List};
-ghost use Prim.Native.Nat.{ℕ, _+_, _*_, _%_, _<_};
+ghost use Prim.Native.Nat.{ℕ, _+_, _*_, _%_};
+ghost use Rattle.translation.specs.Insn.{cslot, cword};
 ghost use Rattle.translation.specs.Emit.{view, seen, Makes, Writes, Raises};
+use crate::insn::Insn;
+use crate::insn::cslot;
+use crate::insn::cword;
 use strip::Entry;
 
 // Where the next byte goes, the next number, and the use mark raised: its slot and how many words of it (0: none).
@@ -48,16 +52,15 @@ fn next(p: Pos, n: u8) -> Made
     }
 }
 
-// A use mark: the word of a slot is used.
-pub fn mark(p: Pos, slot: u8, word: u16) -> Pos
-    requires { ⌜ word < 16384 ⌝ }
-    ensures { λ r. ⌜ ((l : List ℕ) → Raises (view l p) (view l r) slot (word * 4 + 4)) ⌝ }
+// A use mark: the word of an instruction's constant slot is used.
+pub fn mark(p: Pos, i: Insn) -> Pos
+    ensures { λ r. ⌜ ((l : List ℕ) → Raises (view l p) (view l r) (cslot i) (cword i * 4 + 4)) ⌝ }
 {
     Pos {
-        words: word + 1,
+        words: cword(i) + 1,
         at: p.at,
         values: p.values,
-        slot: slot,
+        slot: cslot(i),
     }
 }
 

@@ -16,6 +16,15 @@ mod raw {
             constants: *const u32,
             constants_len: usize,
         ) -> u32;
+        pub fn mehkura_translate(
+            bytes: *const u8,
+            bytes_len: usize,
+            marks: *mut u8,
+            marks_len: usize,
+            out: *mut u8,
+            out_len: usize,
+            written: *mut usize,
+        ) -> u32;
     }
 }
 
@@ -58,6 +67,25 @@ pub fn evaluate(run: &[u8], cells: &mut Cells, constants: &[u32]) -> u32 {
             truths.len(),
             constants.as_ptr(),
             constants.len(),
+        )
+    }
+}
+
+/// The number that the library gives for a record: 0 if it is translated, else 1 to 6. Then the strip stands at the
+/// room's start, `written` is its length, and the marks (32 words in 128 bytes) are raised. A refusal must leave all
+/// three as they are.
+pub fn translate(record: &[u8], marks: &mut [u8], room: &mut [u8], written: &mut usize) -> u32 {
+    // SAFETY: the pointers and lengths are those of live slices and of one number. The library writes to marks, room
+    // and the number alone, which are borrowed for that and do not overlap.
+    unsafe {
+        raw::mehkura_translate(
+            record.as_ptr(),
+            record.len(),
+            marks.as_mut_ptr(),
+            marks.len(),
+            room.as_mut_ptr(),
+            room.len(),
+            written,
         )
     }
 }

@@ -3,9 +3,13 @@
 mod evaluate_bench;
 mod evaluate_diff;
 mod ffi;
+mod pair;
 mod runs;
 mod shape_bench;
 mod shape_diff;
+mod translate_bench;
+mod translate_bits;
+mod translate_diff;
 
 use std::process::ExitCode;
 
@@ -27,6 +31,16 @@ Usage:
   harness evaluate-bench
       Measures both evaluations, each with its shape test, on the same translated strips and prints nanoseconds for each
       entry.
+  harness translate-diff COUNT SEED
+      Translates COUNT random records (random bytes, known kinds, admitted ones, near misses of the refusals 4 and 5)
+      with both, into rooms that are exactly long enough, longer, shorter or empty, and carries the use marks along.
+      Compares the number, the length, the marks and every byte of the room. Some hundred thousand records are needed
+      for every class to have its answers.
+  harness translate-bits STEP SEED
+      The same for every kind, form and telling opcode value with every STEPth setting of the bits 39 to 56 (1: all
+      262,144), the other bits random. One thread for each processor.
+  harness translate-bench
+      Measures both translations on the same records and prints nanoseconds for each record.
   harness help | --help | -h
       Prints this text.
 
@@ -50,10 +64,20 @@ fn main() -> ExitCode {
             number(count).and_then(|count| number(seed).map(|seed| evaluate_diff::run(count, seed)))
         }
         ["evaluate-bench"] => Ok(evaluate_bench::run()),
-        [] => Err("no command".to_owned()),
-        [command @ ("shape-diff" | "shape-bench" | "evaluate-diff" | "evaluate-bench"), ..] => {
-            Err(format!("wrong arguments for `{command}`"))
+        ["translate-diff", count, seed] => {
+            number(count).and_then(|count| number(seed).map(|seed| translate_diff::run(count, seed)))
         }
+        ["translate-bits", step, seed] => number(step).and_then(|step| {
+            let seed = number(seed)?;
+            translate_bits::run(step, seed).ok_or_else(|| format!("no step of {step}"))
+        }),
+        ["translate-bench"] => Ok(translate_bench::run()),
+        [] => Err("no command".to_owned()),
+        [
+            command @ ("shape-diff" | "shape-bench" | "evaluate-diff" | "evaluate-bench" | "translate-diff"
+            | "translate-bits" | "translate-bench"),
+            ..,
+        ] => Err(format!("wrong arguments for `{command}`")),
         [command, ..] => Err(format!("no command `{command}`")),
     };
     match answer {

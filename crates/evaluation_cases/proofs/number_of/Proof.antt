@@ -11,5 +11,6 @@ number-of-spec =
     (λ c. search needs)
     (λ c. search needs)
     (λ c κs. search needs)
+    (λ c. search needs)
     (λ c. rw (c .enum-told .given .1))
     (λ c. rw (c .before .before .o .given .1) (c .refusal-number .ensures)))

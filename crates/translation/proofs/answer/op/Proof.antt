@@ -1,73 +1,23 @@
-use mathlib.Core.Path.{refl}
+use borrow.Author.Needs.{needs}
 use borrow.Author.Tests.{ne-eqb}
 use Rattle.translation.specs.Arms.{armOf}
-use Rattle.translation.proofs.Follow.{by-yes, by-no}
-use borrow.Author.Needs.{needs}
+use Rattle.translation.specs.Emit.{emits}
+use Rattle.translation.proofs.Follow.{by-no}
 use Rattle.translation.proofs.answer.op.Statement.{statement}
 use Rattle.translation.proofs.answer.op.Tie as tie
 
 pub op-spec : {M : Type 1} → statement M
-unfolding armOf
+unfolding armOf emits
 op-spec =
     tie.close
     (tie.spec
-    (λ c κs. search needs)
-    (λ c κs. search needs)
-    (λ c κs. search needs)
-    (λ c κs. search needs)
-    (λ c κs. search needs)
-    (λ c κs. search needs)
-    (λ c κs. search needs)
-    (λ c κs. search needs)
-    (λ c κs. search needs)
-    (λ c κs. search needs)
-    (λ c κs. search needs)
-    (λ c κs. search needs)
-    (λ c κs. search needs)
-    (λ c κs. search needs)
-    (λ c κs. search needs)
-    (λ c κs. search needs)
-    (λ c κs. search needs)
-    (λ c κs. search needs)
-    (λ c κs. search needs)
-    (λ c κs. search needs)
-    (λ c κs. search needs)
-    (λ c κs. search needs)
-    (λ c κs. search needs)
-    (λ c κs. search needs)
-    (λ c κs. search needs)
-    (λ c κs. search needs)
-    (λ c κs. search needs)
-    (λ c κs. search needs)
-    (λ c κs. search needs)
-    (λ c κs. search needs)
-    (λ c. rw (c .before .before .match .keys1) (by-yes refl (c .mov .ensures)))
-    (λ c. rw (c .before .before .match .keys2) (by-no refl (by-yes refl (c .mov32i .ensures))))
-    (λ c. rw (c .before .before .match .keys3) (by-no refl (by-no refl (by-yes refl (c .sel .ensures)))))
-    (λ c. rw (c .before .before .match .keys4) (by-no refl (by-no refl (by-no refl (by-yes refl (c .csetp .ensures))))))
-    (λ c. rw (c .before .before .match .keys5) (by-no refl (by-no refl (by-no refl (by-no refl (by-yes refl (c .icompare .ensures)))))))
-    (λ c. rw (c .before .before .match .keys6) (by-no refl (by-no refl (by-no refl (by-no refl (by-no refl (by-yes refl (c .icompare2 .ensures))))))))
-    (λ c. rw (c .before .before .match .keys7) (by-no refl (by-no refl (by-no refl (by-no refl (by-no refl (by-no refl (by-yes refl (c .pcombine .ensures)))))))))
-    (λ c. rw (c .before .before .match .keys8) (by-no refl (by-no refl (by-no refl (by-no refl (by-no refl (by-no refl (by-no refl (by-yes refl (c .pcombine2 .ensures))))))))))
-    (λ c. rw (c .before .before .match .keys9) (by-no refl (by-no refl (by-no refl (by-no refl (by-no refl (by-no refl (by-no refl (by-no refl (by-yes refl (c .iadd .ensures)))))))))))
-    (λ c. rw (c .before .before .match .keys10) (by-no refl (by-no refl (by-no refl (by-no refl (by-no refl (by-no refl (by-no refl (by-no refl (by-no refl (by-yes refl (c .iadd32i .ensures))))))))))))
-    (λ c. rw (c .before .before .match .keys11) (by-no refl (by-no refl (by-no refl (by-no refl (by-no refl (by-no refl (by-no refl (by-no refl (by-no refl (by-no refl (by-yes refl (c .iadd3 .ensures)))))))))))))
-    (λ c. rw (c .before .before .match .keys12) (by-no refl (by-no refl (by-no refl (by-no refl (by-no refl (by-no refl (by-no refl (by-no refl (by-no refl (by-no refl (by-no refl (by-yes refl (c .iscadd .ensures))))))))))))))
-    (λ c. rw (c .before .before .match .keys13) (by-no refl (by-no refl (by-no refl (by-no refl (by-no refl (by-no refl (by-no refl (by-no refl (by-no refl (by-no refl (by-no refl (by-no refl (by-yes refl (c .xmad .ensures)))))))))))))))
-    (λ c. rw (c .before .before .match .keys14) (by-no refl (by-no refl (by-no refl (by-no refl (by-no refl (by-no refl (by-no refl (by-no refl (by-no refl (by-no refl (by-no refl (by-no refl (by-no refl (by-yes refl (c .imnmx .ensures))))))))))))))))
-    (λ c. rw (c .before .before .match .keys15) (by-no refl (by-no refl (by-no refl (by-no refl (by-no refl (by-no refl (by-no refl (by-no refl (by-no refl (by-no refl (by-no refl (by-no refl (by-no refl (by-no refl (by-yes refl (c .icmp .ensures)))))))))))))))))
-    (λ c. rw (c .before .before .match .keys16) (by-no refl (by-no refl (by-no refl (by-no refl (by-no refl (by-no refl (by-no refl (by-no refl (by-no refl (by-no refl (by-no refl (by-no refl (by-no refl (by-no refl (by-no refl (by-yes refl (c .lop .ensures))))))))))))))))))
-    (λ c. rw (c .before .before .match .keys17) (by-no refl (by-no refl (by-no refl (by-no refl (by-no refl (by-no refl (by-no refl (by-no refl (by-no refl (by-no refl (by-no refl (by-no refl (by-no refl (by-no refl (by-no refl (by-no refl (by-yes refl (c .lop32i .ensures)))))))))))))))))))
-    (λ c. rw (c .before .before .match .keys18) (by-no refl (by-no refl (by-no refl (by-no refl (by-no refl (by-no refl (by-no refl (by-no refl (by-no refl (by-no refl (by-no refl (by-no refl (by-no refl (by-no refl (by-no refl (by-no refl (by-no refl (by-yes refl (c .lop3-arm .ensures))))))))))))))))))))
-    (λ c. rw (c .before .before .match .keys19) (by-no refl (by-no refl (by-no refl (by-no refl (by-no refl (by-no refl (by-no refl (by-no refl (by-no refl (by-no refl (by-no refl (by-no refl (by-no refl (by-no refl (by-no refl (by-no refl (by-no refl (by-no refl (by-yes refl (c .shl .ensures)))))))))))))))))))))
-    (λ c. rw (c .before .before .match .keys20) (by-no refl (by-no refl (by-no refl (by-no refl (by-no refl (by-no refl (by-no refl (by-no refl (by-no refl (by-no refl (by-no refl (by-no refl (by-no refl (by-no refl (by-no refl (by-no refl (by-no refl (by-no refl (by-no refl (by-yes refl (c .shr .ensures))))))))))))))))))))))
-    (λ c. rw (c .before .before .match .keys21) (by-no refl (by-no refl (by-no refl (by-no refl (by-no refl (by-no refl (by-no refl (by-no refl (by-no refl (by-no refl (by-no refl (by-no refl (by-no refl (by-no refl (by-no refl (by-no refl (by-no refl (by-no refl (by-no refl (by-no refl (by-yes refl (c .bfe .ensures)))))))))))))))))))))))
-    (λ c. rw (c .before .before .match .keys22) (by-no refl (by-no refl (by-no refl (by-no refl (by-no refl (by-no refl (by-no refl (by-no refl (by-no refl (by-no refl (by-no refl (by-no refl (by-no refl (by-no refl (by-no refl (by-no refl (by-no refl (by-no refl (by-no refl (by-no refl (by-no refl (by-yes refl (c .bfi .ensures))))))))))))))))))))))))
-    (λ c. rw (c .before .before .match .keys23) (by-no refl (by-no refl (by-no refl (by-no refl (by-no refl (by-no refl (by-no refl (by-no refl (by-no refl (by-no refl (by-no refl (by-no refl (by-no refl (by-no refl (by-no refl (by-no refl (by-no refl (by-no refl (by-no refl (by-no refl (by-no refl (by-no refl (by-yes refl (c .vmnmx .ensures)))))))))))))))))))))))))
-    (λ c. rw (c .before .before .match .keys24) (by-no refl (by-no refl (by-no refl (by-no refl (by-no refl (by-no refl (by-no refl (by-no refl (by-no refl (by-no refl (by-no refl (by-no refl (by-no refl (by-no refl (by-no refl (by-no refl (by-no refl (by-no refl (by-no refl (by-no refl (by-no refl (by-no refl (by-no refl (by-yes refl (c .i2i .ensures))))))))))))))))))))))))))
-    (λ c. rw (c .before .before .match .keys25) (by-no refl (by-no refl (by-no refl (by-no refl (by-no refl (by-no refl (by-no refl (by-no refl (by-no refl (by-no refl (by-no refl (by-no refl (by-no refl (by-no refl (by-no refl (by-no refl (by-no refl (by-no refl (by-no refl (by-no refl (by-no refl (by-no refl (by-no refl (by-no refl (by-yes refl (c .flo .ensures)))))))))))))))))))))))))))
-    (λ c. rw (c .before .before .match .keys26) (by-no refl (by-no refl (by-no refl (by-no refl (by-no refl (by-no refl (by-no refl (by-no refl (by-no refl (by-no refl (by-no refl (by-no refl (by-no refl (by-no refl (by-no refl (by-no refl (by-no refl (by-no refl (by-no refl (by-no refl (by-no refl (by-no refl (by-no refl (by-no refl (by-no refl (by-yes refl (c .popc .ensures))))))))))))))))))))))))))))
-    (λ c. rw (c .before .before .match .keys27) (by-no refl (by-no refl (by-no refl (by-no refl (by-no refl (by-no refl (by-no refl (by-no refl (by-no refl (by-no refl (by-no refl (by-no refl (by-no refl (by-no refl (by-no refl (by-no refl (by-no refl (by-no refl (by-no refl (by-no refl (by-no refl (by-no refl (by-no refl (by-no refl (by-no refl (by-no refl (by-yes refl (c .r2p .ensures)))))))))))))))))))))))))))))
-    (λ c. rw (c .before .before .match .keys28) (by-no refl (by-no refl (by-no refl (by-no refl (by-no refl (by-no refl (by-no refl (by-no refl (by-no refl (by-no refl (by-no refl (by-no refl (by-no refl (by-no refl (by-no refl (by-no refl (by-no refl (by-no refl (by-no refl (by-no refl (by-no refl (by-no refl (by-no refl (by-no refl (by-no refl (by-no refl (by-no refl (by-yes refl (c .p2r .ensures))))))))))))))))))))))))))))))
-    (λ c. rw (c .before .before .match .keys29) (by-no refl (by-no refl (by-no refl (by-no refl (by-no refl (by-no refl (by-no refl (by-no refl (by-no refl (by-no refl (by-no refl (by-no refl (by-no refl (by-no refl (by-no refl (by-no refl (by-no refl (by-no refl (by-no refl (by-no refl (by-no refl (by-no refl (by-no refl (by-no refl (by-no refl (by-no refl (by-no refl (by-no refl (by-yes refl (c .shf .ensures)))))))))))))))))))))))))))))))
-    (λ c. by-no (ne-eqb _ _ (c .before .before .match .rest .0 .0 .0 .0 .0 .0 .0 .0 .0 .0 .0 .0 .0 .0 .0 .0 .0 .0 .0 .0 .0 .0 .0 .0 .0 .0 .0 .0 .1)) (by-no (ne-eqb _ _ (c .before .before .match .rest .0 .0 .0 .0 .0 .0 .0 .0 .0 .0 .0 .0 .0 .0 .0 .0 .0 .0 .0 .0 .0 .0 .0 .0 .0 .0 .0 .1)) (by-no (ne-eqb _ _ (c .before .before .match .rest .0 .0 .0 .0 .0 .0 .0 .0 .0 .0 .0 .0 .0 .0 .0 .0 .0 .0 .0 .0 .0 .0 .0 .0 .0 .0 .1)) (by-no (ne-eqb _ _ (c .before .before .match .rest .0 .0 .0 .0 .0 .0 .0 .0 .0 .0 .0 .0 .0 .0 .0 .0 .0 .0 .0 .0 .0 .0 .0 .0 .0 .1)) (by-no (ne-eqb _ _ (c .before .before .match .rest .0 .0 .0 .0 .0 .0 .0 .0 .0 .0 .0 .0 .0 .0 .0 .0 .0 .0 .0 .0 .0 .0 .0 .0 .1)) (by-no (ne-eqb _ _ (c .before .before .match .rest .0 .0 .0 .0 .0 .0 .0 .0 .0 .0 .0 .0 .0 .0 .0 .0 .0 .0 .0 .0 .0 .0 .0 .1)) (by-no (ne-eqb _ _ (c .before .before .match .rest .0 .0 .0 .0 .0 .0 .0 .0 .0 .0 .0 .0 .0 .0 .0 .0 .0 .0 .0 .0 .0 .0 .1)) (by-no (ne-eqb _ _ (c .before .before .match .rest .0 .0 .0 .0 .0 .0 .0 .0 .0 .0 .0 .0 .0 .0 .0 .0 .0 .0 .0 .0 .0 .1)) (by-no (ne-eqb _ _ (c .before .before .match .rest .0 .0 .0 .0 .0 .0 .0 .0 .0 .0 .0 .0 .0 .0 .0 .0 .0 .0 .0 .0 .1)) (by-no (ne-eqb _ _ (c .before .before .match .rest .0 .0 .0 .0 .0 .0 .0 .0 .0 .0 .0 .0 .0 .0 .0 .0 .0 .0 .0 .1)) (by-no (ne-eqb _ _ (c .before .before .match .rest .0 .0 .0 .0 .0 .0 .0 .0 .0 .0 .0 .0 .0 .0 .0 .0 .0 .0 .1)) (by-no (ne-eqb _ _ (c .before .before .match .rest .0 .0 .0 .0 .0 .0 .0 .0 .0 .0 .0 .0 .0 .0 .0 .0 .0 .1)) (by-no (ne-eqb _ _ (c .before .before .match .rest .0 .0 .0 .0 .0 .0 .0 .0 .0 .0 .0 .0 .0 .0 .0 .0 .1)) (by-no (ne-eqb _ _ (c .before .before .match .rest .0 .0 .0 .0 .0 .0 .0 .0 .0 .0 .0 .0 .0 .0 .0 .1)) (by-no (ne-eqb _ _ (c .before .before .match .rest .0 .0 .0 .0 .0 .0 .0 .0 .0 .0 .0 .0 .0 .0 .1)) (by-no (ne-eqb _ _ (c .before .before .match .rest .0 .0 .0 .0 .0 .0 .0 .0 .0 .0 .0 .0 .0 .1)) (by-no (ne-eqb _ _ (c .before .before .match .rest .0 .0 .0 .0 .0 .0 .0 .0 .0 .0 .0 .0 .1)) (by-no (ne-eqb _ _ (c .before .before .match .rest .0 .0 .0 .0 .0 .0 .0 .0 .0 .0 .0 .1)) (by-no (ne-eqb _ _ (c .before .before .match .rest .0 .0 .0 .0 .0 .0 .0 .0 .0 .0 .1)) (by-no (ne-eqb _ _ (c .before .before .match .rest .0 .0 .0 .0 .0 .0 .0 .0 .0 .1)) (by-no (ne-eqb _ _ (c .before .before .match .rest .0 .0 .0 .0 .0 .0 .0 .0 .1)) (by-no (ne-eqb _ _ (c .before .before .match .rest .0 .0 .0 .0 .0 .0 .0 .1)) (by-no (ne-eqb _ _ (c .before .before .match .rest .0 .0 .0 .0 .0 .0 .1)) (by-no (ne-eqb _ _ (c .before .before .match .rest .0 .0 .0 .0 .0 .1)) (by-no (ne-eqb _ _ (c .before .before .match .rest .0 .0 .0 .0 .1)) (by-no (ne-eqb _ _ (c .before .before .match .rest .0 .0 .0 .1)) (by-no (ne-eqb _ _ (c .before .before .match .rest .0 .0 .1)) (by-no (ne-eqb _ _ (c .before .before .match .rest .0 .1)) (by-no (ne-eqb _ _ (c .before .before .match .rest .1)) (c .lea .ensures)))))))))))))))))))))))))))))))
+    (λ c κs. search needs) (λ c κs. search needs) (λ c κs. search needs) (λ c κs. search needs) (λ c κs. search needs) (λ c κs. search needs) (λ c κs. search needs) (λ c κs. search needs) (λ c κs. search needs)
+    (λ c. rw (c .before .before .match .keys1) (record { is = c .mov .ensures .is }))
+    (λ c. rw (c .before .before .match .keys2) (record { is = c .mov32i .ensures .is }))
+    (λ c. rw (c .before .before .match .keys3) (record { is = c .sel .ensures .is }))
+    (λ c. rw (c .before .before .match .keys4) (record { is = c .csetp .ensures .is }))
+    (λ c. rw (c .before .before .match .keys5) (record { is = c .icompare .ensures .is }))
+    (λ c. rw (c .before .before .match .keys6) (record { is = c .icompare2 .ensures .is }))
+    (λ c. rw (c .before .before .match .keys7) (record { is = c .pcombine .ensures .is }))
+    (λ c. rw (c .before .before .match .keys8) (record { is = c .pcombine2 .ensures .is }))
+    (λ c. let rest = c .before .before .match .rest in by-no (ne-eqb _ _ (rest .0 .0 .0 .0 .0 .0 .0 .1)) (by-no (ne-eqb _ _ (rest .0 .0 .0 .0 .0 .0 .1)) (by-no (ne-eqb _ _ (rest .0 .0 .0 .0 .0 .1)) (by-no (ne-eqb _ _ (rest .0 .0 .0 .0 .1)) (by-no (ne-eqb _ _ (rest .0 .0 .0 .1)) (by-no (ne-eqb _ _ (rest .0 .0 .1)) (by-no (ne-eqb _ _ (rest .0 .1)) (by-no (ne-eqb _ _ (rest .1)) (c .sum-arm .ensures))))))))))

@@ -8,6 +8,5 @@ unfolding bfe
 bfe-spec =
     tie.close
     (tie.spec
-    (λ c κs. tt) (λ c κs. tt) (λ c κs. tt) (λ c κs. tt) (λ c κs. tt) (λ c κs. tt) (λ c κs. tt) (λ c κs. tt)
-    (λ c κs. tt)
-    (λ c. let c1 = c .before in let c3 = c1 .before .before in let c4 = c3 .before in let c6 = c4 .before .before in let c7 = c6 .before in let c9 = c7 .before .before in let c11 = c9 .before .before in let c12 = c11 .before in rw (← c12 .ra .ensures) (by-call (c11 .r .ensures) (by-call (c9 .src-b .ensures) (rw (← c7 .bit .ensures) (by-call (c6 .reverse-if .ensures) (rw (← c4 .bit2 .ensures) (by-call (c3 .field-of .ensures) (rw (← c1 .rd .ensures) (by-call (c .set .ensures) by-ret))))))))))
+    (λ c κs. tt) (λ c κs. tt) (λ c κs. tt) (λ c κs. tt) (λ c κs. tt) (λ c κs. tt) (λ c κs. tt)
+    (λ c. let c2 = c .before .before in let c3 = c2 .before in let c5 = c3 .before .before in let c6 = c5 .before in let c8 = c6 .before .before in let c10 = c8 .before .before in by-call (c10 .r-a .ensures) (by-call (c8 .src-b .ensures) (rw (← c6 .bit .ensures) (by-call (c5 .reverse-if .ensures) (rw (← c3 .bit2 .ensures) (by-call (c2 .field-of .ensures) (by-call (c .set-d .ensures) by-ret))))))))

@@ -8,5 +8,5 @@ unfolding bfi
 bfi-spec =
     tie.close
     (tie.spec
-    (λ c κs. tt) (λ c κs. tt) (λ c κs. tt)
-    (λ c. let c2 = c .before .before in let c3 = c2 .before in rw (← c3 .ra .ensures) (by-call (c2 .r .ensures) (by-call (c .bfi-bc .ensures) by-ret))))
+    (λ c κs. tt) (λ c κs. tt)
+    (λ c. by-call (c .before .before .r-a .ensures) (by-call (c .bfi-bc .ensures) by-ret)))

@@ -8,5 +8,5 @@ unfolding bfiOf
 bfi-of-spec =
     tie.close
     (tie.spec
-    (λ c κs. tt) (λ c κs. tt) (λ c κs. tt)
-    (λ c. let c1 = c .before in let c3 = c1 .before .before in by-call (c3 .field-of .ensures) (rw (← c1 .rd .ensures) (by-call (c .set .ensures) by-ret))))
+    (λ c κs. tt) (λ c κs. tt)
+    (λ c. by-call (c .before .before .field-of .ensures) (by-call (c .set-d .ensures) by-ret)))

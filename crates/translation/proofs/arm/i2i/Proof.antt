@@ -11,5 +11,5 @@ i2i-spec =
     (tie.spec
     (λ c κs. tt) (λ c κs. tt) (λ c κs. tt) (λ c. search needs) (λ c κs. tt) (λ c κs. tt) (λ c. search needs)
     (λ c κs. tt) (λ c. search needs) (λ c κs. tt) (λ c κs. tt) (λ c κs. tt) (λ c κs. tt) (λ c κs. tt) (λ c κs. tt)
-    (λ c κs. tt) (λ c κs. tt) (λ c κs. tt) (λ c κs. tt) (λ c κs. tt)
-    (λ c. let c1 = c .before in let c3 = c1 .before .before in let c5 = c3 .before .before in let c6 = c5 .before in let c8 = c6 .before .before in let c9 = c8 .before in let c11 = c9 .before .before in let c12 = c11 .before in let c13 = c12 .before in let c15 = c13 .before .before in let c16 = c15 .before in let c17 = c16 .before in let c19 = c17 .before .before in let c21 = c19 .before .before in let c22 = c21 .before in let c23 = c22 .before in rw (← c23 .bit .ensures) (rw (← c22 .bit2 .ensures) (rw (← c21 .bits .ensures .0) (by-call (c19 .src-b .ensures) (rw (← c17 .bits2 .ensures .0) (rw (← c16 .bits3 .ensures .0) (by-call (c15 .int-source .ensures) (rw (← c13 .bit3 .ensures) (rw (← c12 .both .ensures) (by-call (c11 .absolute .ensures) (rw (← c9 .bit4 .ensures) (by-call (c8 .ineg .ensures) (rw (← c6 .bit5 .ensures) (by-call (c5 .saturate-if .ensures) (by-call (c3 .int-source2 .ensures) (rw (← c1 .rd .ensures) (by-call (c .set .ensures) by-ret))))))))))))))))))
+    (λ c κs. tt) (λ c κs. tt) (λ c κs. tt) (λ c κs. tt)
+    (λ c. let c2 = c .before .before in let c4 = c2 .before .before in let c5 = c4 .before in let c7 = c5 .before .before in let c8 = c7 .before in let c10 = c8 .before .before in let c11 = c10 .before in let c12 = c11 .before in let c14 = c12 .before .before in let c15 = c14 .before in let c16 = c15 .before in let c18 = c16 .before .before in let c20 = c18 .before .before in let c21 = c20 .before in let c22 = c21 .before in rw (← c22 .bit .ensures) (rw (← c21 .bit2 .ensures) (rw (← c20 .bits .ensures .0) (by-call (c18 .src-b .ensures) (rw (← c16 .bits2 .ensures .0) (rw (← c15 .bits3 .ensures .0) (by-call (c14 .int-source .ensures) (rw (← c12 .bit3 .ensures) (rw (← c11 .both .ensures) (by-call (c10 .absolute .ensures) (rw (← c8 .bit4 .ensures) (by-call (c7 .ineg .ensures) (rw (← c5 .bit5 .ensures) (by-call (c4 .saturate-if .ensures) (by-call (c2 .int-source2 .ensures) (by-call (c .set-d .ensures) by-ret)))))))))))))))))

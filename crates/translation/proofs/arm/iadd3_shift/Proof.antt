@@ -1,4 +1,5 @@
-use borrow.Author.Tests.{eq-eqb, ne-eqb}
+use mathlib.Core.Path.{refl}
+use borrow.Author.Tests.{ne-eqb}
 use Rattle.translation.specs.Arms.{iadd3Shift}
 use Rattle.translation.proofs.Follow.{by-no, by-op, by-ret, by-yes}
 use Rattle.translation.proofs.arm.iadd3_shift.Statement.{statement}
@@ -10,6 +11,6 @@ iadd3-shift-spec =
     tie.close
     (tie.spec
     (λ c κs. tt) (λ c κs. tt)
-    (λ c. by-yes (eq-eqb _ _ (c .before .before .if1 .taken)) (by-op (c .two .ensures) by-ret))
-    (λ c. let c2 = c .before .before in let c3 = c2 .before in by-no (ne-eqb _ _ (c3 .if1 .left)) (by-yes (eq-eqb _ _ (c2 .if2 .taken)) (by-op (c .two2 .ensures) by-ret)))
-    (λ c. by-no (ne-eqb _ _ (c .before .if1 .left)) (by-no (ne-eqb _ _ (c .if2 .left)) by-ret)))
+    (λ c. rw (c .before .before .match .keys1) (by-yes refl (by-op (c .two .ensures) by-ret)))
+    (λ c. rw (c .before .before .match .keys2) (by-no refl (by-yes refl (by-op (c .two2 .ensures) by-ret))))
+    (λ c. let rest = c .match .rest in by-no (ne-eqb _ _ (rest .0 .1)) (by-no (ne-eqb _ _ (rest .1)) by-ret)))

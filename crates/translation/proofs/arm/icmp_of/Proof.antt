@@ -9,5 +9,5 @@ unfolding icmpOf
 icmp-of-spec =
     tie.close
     (tie.spec
-    (λ c κs. tt) (λ c κs. tt) (λ c. search needs) (λ c κs. tt) (λ c κs. tt) (λ c κs. tt) (λ c κs. tt) (λ c κs. tt)
-    (λ c. let c1 = c .before in let c3 = c1 .before .before in let c5 = c3 .before .before in let c6 = c5 .before in let c7 = c6 .before in let c9 = c7 .before .before in by-op (c9 .u .ensures) (rw (← c7 .bits .ensures .0) (rw (← c6 .bit .ensures) (by-call (c5 .int-cmp .ensures) (by-op (c3 .three .ensures) (rw (← c1 .rd .ensures) (by-call (c .set .ensures) by-ret))))))))
+    (λ c κs. tt) (λ c κs. tt) (λ c. search needs) (λ c κs. tt) (λ c κs. tt) (λ c κs. tt) (λ c κs. tt)
+    (λ c. let c2 = c .before .before in let c4 = c2 .before .before in let c5 = c4 .before in let c6 = c5 .before in let c8 = c6 .before .before in by-op (c8 .u .ensures) (rw (← c6 .bits .ensures .0) (rw (← c5 .bit .ensures) (by-call (c4 .int-cmp .ensures) (by-op (c2 .three .ensures) (by-call (c .set-d .ensures) by-ret)))))))

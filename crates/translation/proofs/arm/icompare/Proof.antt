@@ -10,5 +10,4 @@ icompare-spec =
     tie.close
     (tie.spec
     (λ c κs. tt) (λ c κs. tt) (λ c κs. tt) (λ c κs. tt) (λ c. search needs) (λ c κs. tt) (λ c κs. tt) (λ c κs. tt)
-    (λ c. search needs) (λ c κs. tt) (λ c κs. tt) (λ c κs. tt)
-    (λ c. let c2 = c .before .before in let c3 = c2 .before in let c4 = c3 .before in let c6 = c4 .before .before in let c7 = c6 .before in let c8 = c7 .before in let c10 = c8 .before .before in let c12 = c10 .before .before in let c13 = c12 .before in rw (← c13 .ra .ensures) (by-call (c12 .r .ensures) (by-call (c10 .src-b .ensures) (rw (← c8 .bits .ensures .0) (rw (← c7 .bit .ensures) (by-call (c6 .p .ensures) (rw (← c4 .bits2 .ensures .0) (rw (← c3 .bit2 .ensures) (by-call (c2 .int-cmp .ensures) (by-call (c .set-either .ensures) by-ret)))))))))))
+    (λ c. let c2 = c .before .before in let c3 = c2 .before in let c4 = c3 .before in let c6 = c4 .before .before in let c8 = c6 .before .before in let c10 = c8 .before .before in by-call (c10 .r-a .ensures) (by-call (c8 .src-b .ensures) (by-call (c6 .p-39 .ensures) (rw (← c4 .bits .ensures .0) (rw (← c3 .bit .ensures) (by-call (c2 .int-cmp .ensures) (by-call (c .set-either .ensures) by-ret))))))))

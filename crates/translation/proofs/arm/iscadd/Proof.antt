@@ -9,6 +9,6 @@ unfolding iscadd
 iscadd-spec =
     tie.close
     (tie.spec
-    (λ c κs. tt) (λ c κs. tt) (λ c κs. tt) (λ c κs. tt) (λ c κs. tt) (λ c κs. tt) (λ c κs. tt) (λ c κs. tt)
-    (λ c. search needs) (λ c κs. tt) (λ c κs. tt) (λ c κs. tt) (λ c κs. tt) (λ c κs. tt)
-    (λ c. let c1 = c .before in let c3 = c1 .before .before in let c5 = c3 .before .before in let c7 = c5 .before .before in let c8 = c7 .before in let c10 = c8 .before .before in let c11 = c10 .before in let c13 = c11 .before .before in let c15 = c13 .before .before in let c16 = c15 .before in let c18 = c16 .before .before in let c19 = c18 .before in rw (← c19 .ra .ensures) (by-call (c18 .r .ensures) (rw (← c16 .bit .ensures) (by-call (c15 .ineg .ensures) (by-call (c13 .src-b .ensures) (rw (← c11 .bit2 .ensures) (by-call (c10 .ineg2 .ensures) (rw (← c8 .bits .ensures .0) (by-op (c7 .u .ensures) (by-op (c5 .two .ensures) (by-op (c3 .two2 .ensures) (rw (← c1 .rd .ensures) (by-call (c .set .ensures) by-ret))))))))))))))
+    (λ c κs. tt) (λ c κs. tt) (λ c κs. tt) (λ c κs. tt) (λ c κs. tt) (λ c κs. tt) (λ c κs. tt) (λ c. search needs)
+    (λ c κs. tt) (λ c κs. tt) (λ c κs. tt) (λ c κs. tt)
+    (λ c. let c2 = c .before .before in let c4 = c2 .before .before in let c6 = c4 .before .before in let c7 = c6 .before in let c9 = c7 .before .before in let c10 = c9 .before in let c12 = c10 .before .before in let c14 = c12 .before .before in let c15 = c14 .before in let c17 = c15 .before .before in by-call (c17 .r-a .ensures) (rw (← c15 .bit .ensures) (by-call (c14 .ineg .ensures) (by-call (c12 .src-b .ensures) (rw (← c10 .bit2 .ensures) (by-call (c9 .ineg2 .ensures) (rw (← c7 .bits .ensures .0) (by-op (c6 .u .ensures) (by-op (c4 .two .ensures) (by-op (c2 .two2 .ensures) (by-call (c .set-d .ensures) by-ret))))))))))))

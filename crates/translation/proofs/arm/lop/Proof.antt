@@ -9,6 +9,6 @@ unfolding lop
 lop-spec =
     tie.close
     (tie.spec
-    (λ c κs. tt) (λ c κs. tt) (λ c κs. tt) (λ c κs. tt) (λ c κs. tt) (λ c κs. tt) (λ c κs. tt) (λ c κs. tt)
-    (λ c. search needs) (λ c κs. tt) (λ c κs. tt) (λ c κs. tt) (λ c κs. tt) (λ c κs. tt) (λ c κs. tt)
-    (λ c. let c1 = c .before in let c3 = c1 .before .before in let c5 = c3 .before .before in let c6 = c5 .before in let c8 = c6 .before .before in let c9 = c8 .before in let c11 = c9 .before .before in let c12 = c11 .before in let c14 = c12 .before .before in let c15 = c14 .before in let c17 = c15 .before .before in let c18 = c17 .before in let c20 = c18 .before .before in by-call (c20 .src-b .ensures) (rw (← c18 .ra .ensures) (by-call (c17 .r .ensures) (rw (← c15 .bit .ensures) (by-call (c14 .inot .ensures) (rw (← c12 .bit2 .ensures) (by-call (c11 .inot2 .ensures) (rw (← c9 .bits .ensures .0) (by-call (c8 .lop-word .ensures) (rw (← c6 .bit3 .ensures) (by-call (c5 .set-cc-none .ensures) (by-call (c3 .lop-predicate .ensures) (rw (← c1 .rd .ensures) (by-call (c .set .ensures) by-ret)))))))))))))))
+    (λ c κs. tt) (λ c κs. tt) (λ c κs. tt) (λ c κs. tt) (λ c κs. tt) (λ c κs. tt) (λ c κs. tt) (λ c. search needs)
+    (λ c κs. tt) (λ c κs. tt) (λ c κs. tt) (λ c κs. tt) (λ c κs. tt)
+    (λ c. let c2 = c .before .before in let c4 = c2 .before .before in let c5 = c4 .before in let c7 = c5 .before .before in let c8 = c7 .before in let c10 = c8 .before .before in let c11 = c10 .before in let c13 = c11 .before .before in let c14 = c13 .before in let c16 = c14 .before .before in let c18 = c16 .before .before in by-call (c18 .src-b .ensures) (by-call (c16 .r-a .ensures) (rw (← c14 .bit .ensures) (by-call (c13 .inot .ensures) (rw (← c11 .bit2 .ensures) (by-call (c10 .inot2 .ensures) (rw (← c8 .bits .ensures .0) (by-call (c7 .lop-word .ensures) (rw (← c5 .bit3 .ensures) (by-call (c4 .set-cc-none .ensures) (by-call (c2 .lop-predicate .ensures) (by-call (c .set-d .ensures) by-ret)))))))))))))

@@ -10,5 +10,5 @@ lop32i-spec =
     tie.close
     (tie.spec
     (λ c κs. tt) (λ c κs. tt) (λ c κs. tt) (λ c κs. tt) (λ c κs. tt) (λ c κs. tt) (λ c κs. tt) (λ c κs. tt)
-    (λ c κs. tt) (λ c. search needs) (λ c κs. tt) (λ c κs. tt) (λ c κs. tt) (λ c κs. tt) (λ c κs. tt)
-    (λ c. let c1 = c .before in let c3 = c1 .before .before in let c4 = c3 .before in let c6 = c4 .before .before in let c7 = c6 .before in let c9 = c7 .before .before in let c10 = c9 .before in let c12 = c10 .before .before in let c13 = c12 .before in let c15 = c13 .before .before in let c16 = c15 .before in let c18 = c16 .before .before in let c19 = c18 .before in rw (← c19 .imm32 .ensures) (by-op (c18 .u .ensures) (rw (← c16 .ra .ensures) (by-call (c15 .r .ensures) (rw (← c13 .bit .ensures) (by-call (c12 .inot .ensures) (rw (← c10 .bit2 .ensures) (by-call (c9 .inot2 .ensures) (rw (← c7 .bits .ensures .0) (by-call (c6 .lop-word .ensures) (rw (← c4 .bit3 .ensures) (by-call (c3 .set-cc-none .ensures) (rw (← c1 .rd .ensures) (by-call (c .set .ensures) by-ret)))))))))))))))
+    (λ c. search needs) (λ c κs. tt) (λ c κs. tt) (λ c κs. tt) (λ c κs. tt)
+    (λ c. let c2 = c .before .before in let c3 = c2 .before in let c5 = c3 .before .before in let c6 = c5 .before in let c8 = c6 .before .before in let c9 = c8 .before in let c11 = c9 .before .before in let c12 = c11 .before in let c14 = c12 .before .before in let c16 = c14 .before .before in let c17 = c16 .before in rw (← c17 .imm32 .ensures) (by-op (c16 .u .ensures) (by-call (c14 .r-a .ensures) (rw (← c12 .bit .ensures) (by-call (c11 .inot .ensures) (rw (← c9 .bit2 .ensures) (by-call (c8 .inot2 .ensures) (rw (← c6 .bits .ensures .0) (by-call (c5 .lop-word .ensures) (rw (← c3 .bit3 .ensures) (by-call (c2 .set-cc-none .ensures) (by-call (c .set-d .ensures) by-ret)))))))))))))

@@ -8,6 +8,5 @@ unfolding lop3Arm
 lop3-arm-spec =
     tie.close
     (tie.spec
-    (λ c κs. tt) (λ c κs. tt) (λ c κs. tt) (λ c κs. tt) (λ c κs. tt) (λ c κs. tt) (λ c κs. tt) (λ c κs. tt)
-    (λ c κs. tt)
-    (λ c. let c1 = c .before in let c3 = c1 .before .before in let c4 = c3 .before in let c6 = c4 .before .before in let c7 = c6 .before in let c9 = c7 .before .before in let c11 = c9 .before .before in let c12 = c11 .before in rw (← c12 .ra .ensures) (by-call (c11 .r .ensures) (by-call (c9 .src-b .ensures) (rw (← c7 .rc .ensures) (by-call (c6 .r2 .ensures) (rw (← c4 .lop3-table .ensures) (by-call (c3 .lop3 .ensures) (rw (← c1 .rd .ensures) (by-call (c .set .ensures) by-ret))))))))))
+    (λ c κs. tt) (λ c κs. tt) (λ c κs. tt) (λ c κs. tt) (λ c κs. tt) (λ c κs. tt)
+    (λ c. let c2 = c .before .before in let c3 = c2 .before in let c5 = c3 .before .before in let c7 = c5 .before .before in let c9 = c7 .before .before in by-call (c9 .r-a .ensures) (by-call (c7 .src-b .ensures) (by-call (c5 .r-c .ensures) (rw (← c3 .lop3-table .ensures) (by-call (c2 .lop3 .ensures) (by-call (c .set-d .ensures) by-ret)))))))

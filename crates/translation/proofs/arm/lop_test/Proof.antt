@@ -1,4 +1,5 @@
-use borrow.Author.Tests.{eq-eqb, ne-eqb}
+use mathlib.Core.Path.{refl}
+use borrow.Author.Tests.{ne-eqb}
 use Rattle.translation.specs.Arms.{lopTest}
 use Rattle.translation.proofs.Follow.{by-no, by-op, by-ret, by-yes}
 use Rattle.translation.proofs.arm.lop_test.Statement.{statement}
@@ -10,7 +11,7 @@ lop-test-spec =
     tie.close
     (tie.spec
     (λ c κs. tt) (λ c κs. tt) (λ c κs. tt) (λ c κs. tt)
-    (λ c. by-yes (eq-eqb _ _ (c .before .before .if1 .taken)) (by-op (c .two .ensures) by-ret))
-    (λ c. let c2 = c .before .before in let c3 = c2 .before in by-no (ne-eqb _ _ (c3 .if1 .left)) (by-yes (eq-eqb _ _ (c2 .if2 .taken)) (by-op (c .two2 .ensures) by-ret)))
-    (λ c. let c2 = c .before .before in let c3 = c2 .before in let c4 = c3 .before in by-no (ne-eqb _ _ (c4 .if1 .left)) (by-no (ne-eqb _ _ (c3 .if2 .left)) (by-yes (eq-eqb _ _ (c2 .if3 .taken)) (by-op (c .truth .ensures) by-ret))))
-    (λ c. let c2 = c .before .before in let c3 = c2 .before in let c4 = c3 .before in by-no (ne-eqb _ _ (c4 .if1 .left)) (by-no (ne-eqb _ _ (c3 .if2 .left)) (by-no (ne-eqb _ _ (c2 .if3 .left)) (by-op (c .truth2 .ensures) by-ret)))))
+    (λ c. rw (c .before .before .match .keys1) (by-yes refl (by-op (c .two .ensures) by-ret)))
+    (λ c. rw (c .before .before .match .keys2) (by-no refl (by-yes refl (by-op (c .two2 .ensures) by-ret))))
+    (λ c. rw (c .before .before .match .keys3) (by-no refl (by-no refl (by-yes refl (by-op (c .truth .ensures) by-ret)))))
+    (λ c. let rest = c .before .before .match .rest in by-no (ne-eqb _ _ (rest .0 .0 .1)) (by-no (ne-eqb _ _ (rest .0 .1)) (by-no (ne-eqb _ _ (rest .1)) (by-op (c .truth2 .ensures) by-ret)))))

@@ -8,5 +8,5 @@ unfolding mov32i
 mov32i-spec =
     tie.close
     (tie.spec
-    (λ c κs. tt) (λ c κs. tt) (λ c κs. tt) (λ c κs. tt)
-    (λ c. let c1 = c .before in let c3 = c1 .before .before in let c4 = c3 .before in rw (← c4 .imm32 .ensures) (by-op (c3 .u .ensures) (rw (← c1 .rd .ensures) (by-call (c .set .ensures) by-ret)))))
+    (λ c κs. tt) (λ c κs. tt) (λ c κs. tt)
+    (λ c. let c2 = c .before .before in let c3 = c2 .before in rw (← c3 .imm32 .ensures) (by-op (c2 .u .ensures) (by-call (c .set-d .ensures) by-ret))))

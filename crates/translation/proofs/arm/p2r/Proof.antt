@@ -8,6 +8,5 @@ unfolding p2r
 p2r-spec =
     tie.close
     (tie.spec
-    (λ c κs. tt) (λ c κs. tt) (λ c κs. tt) (λ c κs. tt) (λ c κs. tt) (λ c κs. tt) (λ c κs. tt) (λ c κs. tt)
-    (λ c κs. tt)
-    (λ c. let c1 = c .before in let c3 = c1 .before .before in let c5 = c3 .before .before in let c7 = c5 .before .before in let c8 = c7 .before in let c10 = c8 .before .before in let c13 = c10 .before .before .before in let c14 = c13 .before in rw (← c14 .ra .ensures) (by-call (c13 .r .ensures) (by-call (c10 .note-unless .ensures) (rw (← c8 .p2r-keep .ensures) (by-op (c7 .u .ensures) (by-op (c5 .two .ensures) (by-call (c3 .p2r-turns .ensures) (rw (← c1 .rd .ensures) (by-call (c .set .ensures) by-ret))))))))))
+    (λ c κs. tt) (λ c κs. tt) (λ c κs. tt) (λ c κs. tt) (λ c κs. tt) (λ c κs. tt) (λ c κs. tt)
+    (λ c. let c2 = c .before .before in let c4 = c2 .before .before in let c6 = c4 .before .before in let c7 = c6 .before in let c9 = c7 .before .before in let c12 = c9 .before .before .before in by-call (c12 .r-a .ensures) (by-call (c9 .note-unless .ensures) (rw (← c7 .p2r-keep .ensures) (by-op (c6 .u .ensures) (by-op (c4 .two .ensures) (by-call (c2 .p2r-turns .ensures) (by-call (c .set-d .ensures) by-ret))))))))

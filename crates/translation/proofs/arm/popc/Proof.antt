@@ -8,5 +8,5 @@ unfolding popc
 popc-spec =
     tie.close
     (tie.spec
-    (λ c κs. tt) (λ c κs. tt) (λ c κs. tt) (λ c κs. tt) (λ c κs. tt) (λ c κs. tt)
-    (λ c. let c1 = c .before in let c3 = c1 .before .before in let c5 = c3 .before .before in let c6 = c5 .before in let c8 = c6 .before .before in by-call (c8 .src-b .ensures) (rw (← c6 .bit .ensures) (by-call (c5 .inot .ensures) (by-op (c3 .one .ensures) (rw (← c1 .rd .ensures) (by-call (c .set .ensures) by-ret)))))))
+    (λ c κs. tt) (λ c κs. tt) (λ c κs. tt) (λ c κs. tt) (λ c κs. tt)
+    (λ c. let c2 = c .before .before in let c4 = c2 .before .before in let c5 = c4 .before in let c7 = c5 .before .before in by-call (c7 .src-b .ensures) (rw (← c5 .bit .ensures) (by-call (c4 .inot .ensures) (by-op (c2 .one .ensures) (by-call (c .set-d .ensures) by-ret))))))

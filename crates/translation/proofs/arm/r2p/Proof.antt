@@ -8,5 +8,5 @@ unfolding r2p
 r2p-spec =
     tie.close
     (tie.spec
-    (λ c κs. tt) (λ c κs. tt) (λ c κs. tt) (λ c κs. tt)
-    (λ c. let c2 = c .before .before in let c5 = c2 .before .before .before in let c6 = c5 .before in rw (← c6 .ra .ensures) (by-call (c5 .r .ensures) (by-call (c2 .note-unless .ensures) (by-call (c .r2p-turns .ensures) by-ret)))))
+    (λ c κs. tt) (λ c κs. tt) (λ c κs. tt)
+    (λ c. let c2 = c .before .before in let c5 = c2 .before .before .before in by-call (c5 .r-a .ensures) (by-call (c2 .note-unless .ensures) (by-call (c .r2p-turns .ensures) by-ret))))

@@ -8,5 +8,5 @@ unfolding setTruth
 set-truth-spec =
     tie.close
     (tie.spec
-    (λ c κs. tt) (λ c κs. tt) (λ c κs. tt) (λ c κs. tt) (λ c κs. tt) (λ c κs. tt)
-    (λ c. let c1 = c .before in let c3 = c1 .before .before in let c4 = c3 .before in let c6 = c4 .before .before in let c7 = c6 .before in rw (← c7 .truth-word .ensures) (by-call (c6 .b2u .ensures) (rw (← c4 .bit .ensures) (by-call (c3 .set-cc-none .ensures) (rw (← c1 .rd .ensures) (by-call (c .set .ensures) by-ret)))))))
+    (λ c κs. tt) (λ c κs. tt) (λ c κs. tt) (λ c κs. tt) (λ c κs. tt)
+    (λ c. let c2 = c .before .before in let c3 = c2 .before in let c5 = c3 .before .before in let c6 = c5 .before in rw (← c6 .truth-word .ensures) (by-call (c5 .b2u .ensures) (rw (← c3 .bit .ensures) (by-call (c2 .set-cc-none .ensures) (by-call (c .set-d .ensures) by-ret))))))

@@ -8,5 +8,5 @@ unfolding shf
 shf-spec =
     tie.close
     (tie.spec
-    (λ c κs. tt) (λ c κs. tt) (λ c κs. tt) (λ c κs. tt) (λ c κs. tt) (λ c κs. tt)
-    (λ c. let c2 = c .before .before in let c3 = c2 .before in let c5 = c3 .before .before in let c7 = c5 .before .before in let c8 = c7 .before in rw (← c8 .ra .ensures) (by-call (c7 .r .ensures) (by-call (c5 .src-b .ensures) (rw (← c3 .rc .ensures) (by-call (c2 .r2 .ensures) (by-call (c .shf-of .ensures) by-ret)))))))
+    (λ c κs. tt) (λ c κs. tt) (λ c κs. tt) (λ c κs. tt)
+    (λ c. let c2 = c .before .before in let c4 = c2 .before .before in let c6 = c4 .before .before in by-call (c6 .r-a .ensures) (by-call (c4 .src-b .ensures) (by-call (c2 .r-c .ensures) (by-call (c .shf-of .ensures) by-ret)))))

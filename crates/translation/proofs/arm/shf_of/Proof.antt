@@ -9,5 +9,5 @@ shf-of-spec =
     tie.close
     (tie.spec
     (λ c κs. tt) (λ c κs. tt) (λ c κs. tt) (λ c κs. tt) (λ c κs. tt) (λ c κs. tt) (λ c κs. tt) (λ c κs. tt)
-    (λ c κs. tt) (λ c κs. tt)
-    (λ c. let c1 = c .before in let c3 = c1 .before .before in let c4 = c3 .before in let c6 = c4 .before .before in let c7 = c6 .before in let c9 = c7 .before .before in let c10 = c9 .before in let c12 = c10 .before .before in let c14 = c12 .before .before in by-op (c14 .u .ensures) (by-op (c12 .u2 .ensures) (rw (← c10 .bit .ensures) (by-call (c9 .shf-amount .ensures) (rw (← c7 .shf-left .ensures) (by-call (c6 .shf-word .ensures) (rw (← c4 .shf-plain .ensures) (by-call (c3 .note-unless .ensures) (rw (← c1 .rd .ensures) (by-call (c .set .ensures) by-ret)))))))))))
+    (λ c κs. tt)
+    (λ c. let c2 = c .before .before in let c3 = c2 .before in let c5 = c3 .before .before in let c6 = c5 .before in let c8 = c6 .before .before in let c9 = c8 .before in let c11 = c9 .before .before in let c13 = c11 .before .before in by-op (c13 .u .ensures) (by-op (c11 .u2 .ensures) (rw (← c9 .bit .ensures) (by-call (c8 .shf-amount .ensures) (rw (← c6 .shf-left .ensures) (by-call (c5 .shf-word .ensures) (rw (← c3 .shf-plain .ensures) (by-call (c2 .note-unless .ensures) (by-call (c .set-d .ensures) by-ret))))))))))

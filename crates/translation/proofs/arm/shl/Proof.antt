@@ -8,5 +8,5 @@ unfolding shl
 shl-spec =
     tie.close
     (tie.spec
-    (λ c κs. tt) (λ c κs. tt) (λ c κs. tt) (λ c κs. tt) (λ c κs. tt) (λ c κs. tt) (λ c κs. tt)
-    (λ c. let c1 = c .before in let c3 = c1 .before .before in let c4 = c3 .before in let c6 = c4 .before .before in let c8 = c6 .before .before in let c9 = c8 .before in rw (← c9 .ra .ensures) (by-call (c8 .r .ensures) (by-call (c6 .src-b .ensures) (rw (← c4 .bit .ensures) (by-call (c3 .shift .ensures) (rw (← c1 .rd .ensures) (by-call (c .set .ensures) by-ret))))))))
+    (λ c κs. tt) (λ c κs. tt) (λ c κs. tt) (λ c κs. tt) (λ c κs. tt)
+    (λ c. let c2 = c .before .before in let c3 = c2 .before in let c5 = c3 .before .before in let c7 = c5 .before .before in by-call (c7 .r-a .ensures) (by-call (c5 .src-b .ensures) (rw (← c3 .bit .ensures) (by-call (c2 .shift .ensures) (by-call (c .set-d .ensures) by-ret))))))

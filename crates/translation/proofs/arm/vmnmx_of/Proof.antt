@@ -10,5 +10,5 @@ vmnmx-of-spec =
     tie.close
     (tie.spec
     (λ c κs. tt) (λ c κs. tt) (λ c κs. tt) (λ c κs. tt) (λ c κs. tt) (λ c κs. tt) (λ c κs. tt) (λ c κs. tt)
-    (λ c κs. tt) (λ c κs. tt) (λ c. search needs) (λ c κs. tt) (λ c κs. tt) (λ c κs. tt)
-    (λ c. let c1 = c .before in let c3 = c1 .before .before in let c4 = c3 .before in let c6 = c4 .before .before in let c7 = c6 .before in let c8 = c7 .before in let c10 = c8 .before .before in let c12 = c10 .before .before in let c14 = c12 .before .before in let c15 = c14 .before in let c16 = c15 .before in let c17 = c16 .before in rw (← c17 .bit .ensures) (rw (← c16 .bit2 .ensures) (rw (← c15 .bit3 .ensures) (rw (← c14 .bit4 .ensures) (by-op (c12 .u .ensures) (by-call (c10 .vmnmx-word .ensures) (rw (← c8 .bit5 .ensures) (rw (← c7 .vmnmx-signed .ensures) (by-call (c6 .vmnmx-saturate .ensures) (rw (← c4 .bits .ensures .0) (by-call (c3 .vmnmx-merge .ensures) (rw (← c1 .rd .ensures) (by-call (c .set .ensures) by-ret))))))))))))))
+    (λ c κs. tt) (λ c κs. tt) (λ c. search needs) (λ c κs. tt) (λ c κs. tt)
+    (λ c. let c2 = c .before .before in let c3 = c2 .before in let c5 = c3 .before .before in let c6 = c5 .before in let c7 = c6 .before in let c9 = c7 .before .before in let c11 = c9 .before .before in let c13 = c11 .before .before in let c14 = c13 .before in let c15 = c14 .before in let c16 = c15 .before in rw (← c16 .bit .ensures) (rw (← c15 .bit2 .ensures) (rw (← c14 .bit3 .ensures) (rw (← c13 .bit4 .ensures) (by-op (c11 .u .ensures) (by-call (c9 .vmnmx-word .ensures) (rw (← c7 .bit5 .ensures) (rw (← c6 .vmnmx-signed .ensures) (by-call (c5 .vmnmx-saturate .ensures) (rw (← c3 .bits .ensures .0) (by-call (c2 .vmnmx-merge .ensures) (by-call (c .set-d .ensures) by-ret)))))))))))))

@@ -8,7 +8,9 @@ unfolding vmnmxWord
 vmnmx-word-spec =
     tie.close
     (tie.spec
-    (λ c κs. tt) (λ c κs. tt) (λ c κs. tt) (λ c κs. tt) (λ c κs. tt)
+    (λ c κs. tt)
     (λ c. by-yes (c .before .before .if1 .taken) (by-call (c .min-or-max .ensures) by-ret))
+    (λ c κs. tt) (λ c κs. tt)
     (λ c. let c2 = c .before .before in let c4 = c2 .before .before in let c5 = c4 .before in by-no (c5 .if1 .left) (by-yes (c4 .if2 .taken) (by-call (c2 .vmnmx-first .ensures) (by-call (c .vmnmx-mixed .ensures) by-ret))))
+    (λ c κs. tt) (λ c κs. tt)
     (λ c. let c2 = c .before .before in let c4 = c2 .before .before in let c5 = c4 .before in by-no (c5 .if1 .left) (by-no (c4 .if2 .left) (by-call (c2 .vmnmx-first2 .ensures) (by-call (c .vmnmx-mixed2 .ensures) by-ret)))))

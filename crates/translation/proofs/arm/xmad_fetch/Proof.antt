@@ -10,6 +10,6 @@ unfolding xmadFetch
 xmad-fetch-spec =
     tie.close
     (tie.spec
-    (λ c κs. tt) (λ c. search needs) (λ c κs. tt) (λ c κs. tt) (λ c κs. tt) (λ c κs. tt) (λ c κs. tt)
-    (λ c. let c2 = c .before .before in let c3 = c2 .before in let c5 = c3 .before .before in let c6 = c5 .before in let c8 = c6 .before .before in by-yes (eq-eqb _ _ (c8 .if1 .taken)) (rw (← c6 .bits .ensures .0) (by-op (c5 .u .ensures) (rw (← c3 .rc .ensures) (by-call (c2 .r .ensures) (by-call (c .xmad-of .ensures) by-ret))))))
+    (λ c κs. tt) (λ c. search needs) (λ c κs. tt) (λ c κs. tt) (λ c κs. tt) (λ c κs. tt)
+    (λ c. let c2 = c .before .before in let c4 = c2 .before .before in let c5 = c4 .before in let c7 = c5 .before .before in by-yes (eq-eqb _ _ (c7 .if1 .taken)) (rw (← c5 .bits .ensures .0) (by-op (c4 .u .ensures) (by-call (c2 .r-c .ensures) (by-call (c .xmad-of .ensures) by-ret)))))
     (λ c. by-no (ne-eqb _ _ (c .before .before .if1 .left)) (c .xmad-bc .ensures)))

@@ -9,5 +9,4 @@ xmad-of-spec =
     tie.close
     (tie.spec
     (λ c κs. tt) (λ c κs. tt) (λ c κs. tt) (λ c κs. tt) (λ c κs. tt) (λ c κs. tt) (λ c κs. tt) (λ c κs. tt)
-    (λ c κs. tt)
-    (λ c. let c1 = c .before in let c3 = c1 .before .before in let c4 = c3 .before in let c6 = c4 .before .before in let c8 = c6 .before .before in let c9 = c8 .before in let c11 = c9 .before .before in let c13 = c11 .before .before in by-call (c13 .xmad-product .ensures) (by-op (c11 .u .ensures) (rw (← c9 .xmad-mode .ensures) (by-call (c8 .xmad-alter .ensures) (by-op (c6 .two .ensures) (rw (← c4 .xmad-mrg .ensures) (by-call (c3 .xmad-merge .ensures) (rw (← c1 .rd .ensures) (by-call (c .set .ensures) by-ret))))))))))
+    (λ c. let c2 = c .before .before in let c3 = c2 .before in let c5 = c3 .before .before in let c7 = c5 .before .before in let c8 = c7 .before in let c10 = c8 .before .before in let c12 = c10 .before .before in by-call (c12 .xmad-product .ensures) (by-op (c10 .u .ensures) (rw (← c8 .xmad-mode .ensures) (by-call (c7 .xmad-alter .ensures) (by-op (c5 .two .ensures) (rw (← c3 .xmad-mrg .ensures) (by-call (c2 .xmad-merge .ensures) (by-call (c .set-d .ensures) by-ret)))))))))

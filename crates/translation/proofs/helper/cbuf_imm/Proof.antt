@@ -9,5 +9,5 @@ unfolding cbufImm
 cbuf-imm-spec =
     tie.close
     (tie.spec
-    (λ c κs. search needs) (λ c. search needs) (λ c κs. tt) (λ c κs. tt)
-    (λ c. let c2 = c .before .before in let c4 = c2 .before .before in by-mark (c4 .mark .ensures _) (by-op (c2 .u .ensures) (by-call (c .cbuf-at .ensures) by-ret))))
+    (λ c κs. tt) (λ c κs. tt) (λ c. search needs) (λ c. search needs) (λ c κs. tt) (λ c κs. tt) (λ c κs. tt)
+    (λ c. let c1 = c .before in let c3 = c1 .before .before in let c4 = c3 .before in let c6 = c4 .before .before in by-mark (c6 .mark .ensures _) (rw (← c4 .cword .ensures .0) (by-op (c3 .u .ensures) (rw (← c1 .cslot .ensures) (by-call (c .cbuf-at .ensures) by-ret))))))

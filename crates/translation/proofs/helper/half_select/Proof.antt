@@ -9,7 +9,8 @@ unfolding halfSelect
 half-select-spec =
     tie.close
     (tie.spec
-    (λ c κs. tt) (λ c κs. tt)
+    (λ c κs. tt)
     (λ c. by-yes (eq-eqb _ _ (c .before .before .if1 .taken)) (c .half16 .ensures))
+    (λ c κs. tt)
     (λ c. let c2 = c .before .before in let c3 = c2 .before in by-no (ne-eqb _ _ (c3 .if1 .left)) (by-yes (eq-eqb _ _ (c2 .if2 .taken)) (c .half162 .ensures)))
     (λ c. by-no (ne-eqb _ _ (c .before .if1 .left)) (by-no (ne-eqb _ _ (c .if2 .left)) by-ret)))

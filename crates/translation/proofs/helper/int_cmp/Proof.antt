@@ -1,20 +1,22 @@
-use borrow.Author.Tests.{eq-eqb, ne-eqb}
+use mathlib.Core.Path.{refl}
+use borrow.Author.Tests.{ne-eqb}
 use Rattle.translation.specs.Helpers.{intCmp}
+use Rattle.translation.specs.Emit.{emits}
 use Rattle.translation.proofs.Follow.{by-no, by-op, by-ret, by-yes}
 use Rattle.translation.proofs.helper.int_cmp.Statement.{statement}
 use Rattle.translation.proofs.helper.int_cmp.Tie as tie
 
 pub int-cmp-spec : {M : Type 1} → statement M
-unfolding intCmp
+unfolding intCmp emits
 int-cmp-spec =
     tie.close
     (tie.spec
     (λ c κs. tt) (λ c κs. tt) (λ c κs. tt) (λ c κs. tt) (λ c κs. tt) (λ c κs. tt) (λ c κs. tt) (λ c κs. tt)
-    (λ c. by-yes (eq-eqb _ _ (c .before .before .if1 .taken)) (by-op (c .truth .ensures) by-ret))
-    (λ c. let c2 = c .before .before in let c3 = c2 .before in by-no (ne-eqb _ _ (c3 .if1 .left)) (by-yes (eq-eqb _ _ (c2 .if2 .taken)) (c .less-than .ensures)))
-    (λ c. let c2 = c .before .before in let c3 = c2 .before in let c4 = c3 .before in by-no (ne-eqb _ _ (c4 .if1 .left)) (by-no (ne-eqb _ _ (c3 .if2 .left)) (by-yes (eq-eqb _ _ (c2 .if3 .taken)) (by-op (c .two .ensures) by-ret))))
-    (λ c. let c2 = c .before .before in let c3 = c2 .before in let c4 = c3 .before in let c5 = c4 .before in by-no (ne-eqb _ _ (c5 .if1 .left)) (by-no (ne-eqb _ _ (c4 .if2 .left)) (by-no (ne-eqb _ _ (c3 .if3 .left)) (by-yes (eq-eqb _ _ (c2 .if4 .taken)) (c .less-than-equal .ensures)))))
-    (λ c. let c2 = c .before .before in let c3 = c2 .before in let c4 = c3 .before in let c5 = c4 .before in let c6 = c5 .before in by-no (ne-eqb _ _ (c6 .if1 .left)) (by-no (ne-eqb _ _ (c5 .if2 .left)) (by-no (ne-eqb _ _ (c4 .if3 .left)) (by-no (ne-eqb _ _ (c3 .if4 .left)) (by-yes (eq-eqb _ _ (c2 .if5 .taken)) (c .greater-than .ensures))))))
-    (λ c. let c2 = c .before .before in let c3 = c2 .before in let c4 = c3 .before in let c5 = c4 .before in let c6 = c5 .before in let c7 = c6 .before in by-no (ne-eqb _ _ (c7 .if1 .left)) (by-no (ne-eqb _ _ (c6 .if2 .left)) (by-no (ne-eqb _ _ (c5 .if3 .left)) (by-no (ne-eqb _ _ (c4 .if4 .left)) (by-no (ne-eqb _ _ (c3 .if5 .left)) (by-yes (eq-eqb _ _ (c2 .if6 .taken)) (by-op (c .two2 .ensures) by-ret)))))))
-    (λ c. let c2 = c .before .before in let c3 = c2 .before in let c4 = c3 .before in let c5 = c4 .before in let c6 = c5 .before in let c7 = c6 .before in let c8 = c7 .before in by-no (ne-eqb _ _ (c8 .if1 .left)) (by-no (ne-eqb _ _ (c7 .if2 .left)) (by-no (ne-eqb _ _ (c6 .if3 .left)) (by-no (ne-eqb _ _ (c5 .if4 .left)) (by-no (ne-eqb _ _ (c4 .if5 .left)) (by-no (ne-eqb _ _ (c3 .if6 .left)) (by-yes (eq-eqb _ _ (c2 .if7 .taken)) (c .greater-than-equal .ensures))))))))
-    (λ c. let c2 = c .before .before in let c3 = c2 .before in let c4 = c3 .before in let c5 = c4 .before in let c6 = c5 .before in let c7 = c6 .before in let c8 = c7 .before in by-no (ne-eqb _ _ (c8 .if1 .left)) (by-no (ne-eqb _ _ (c7 .if2 .left)) (by-no (ne-eqb _ _ (c6 .if3 .left)) (by-no (ne-eqb _ _ (c5 .if4 .left)) (by-no (ne-eqb _ _ (c4 .if5 .left)) (by-no (ne-eqb _ _ (c3 .if6 .left)) (by-no (ne-eqb _ _ (c2 .if7 .left)) (by-op (c .truth2 .ensures) by-ret)))))))))
+    (λ c. rw (c .before .before .match .keys1) (by-yes refl (by-op (c .truth .ensures) by-ret)))
+    (λ c. rw (c .before .before .match .keys2) (record { is = c .less-than .ensures .is }))
+    (λ c. rw (c .before .before .match .keys3) (by-no refl (by-no refl (by-yes refl (by-op (c .two .ensures) by-ret)))))
+    (λ c. rw (c .before .before .match .keys4) (record { is = c .less-than-equal .ensures .is }))
+    (λ c. rw (c .before .before .match .keys5) (record { is = c .greater-than .ensures .is }))
+    (λ c. rw (c .before .before .match .keys6) (by-no refl (by-no refl (by-no refl (by-no refl (by-no refl (by-yes refl (by-op (c .two2 .ensures) by-ret))))))))
+    (λ c. rw (c .before .before .match .keys7) (record { is = c .greater-than-equal .ensures .is }))
+    (λ c. let rest = c .before .before .match .rest in by-no (ne-eqb _ _ (rest .0 .0 .0 .0 .0 .0 .1)) (by-no (ne-eqb _ _ (rest .0 .0 .0 .0 .0 .1)) (by-no (ne-eqb _ _ (rest .0 .0 .0 .0 .1)) (by-no (ne-eqb _ _ (rest .0 .0 .0 .1)) (by-no (ne-eqb _ _ (rest .0 .0 .1)) (by-no (ne-eqb _ _ (rest .0 .1)) (by-no (ne-eqb _ _ (rest .1)) (by-op (c .truth2 .ensures) by-ret)))))))))

@@ -8,7 +8,9 @@ unfolding shifted
 shifted-spec =
     tie.close
     (tie.spec
-    (λ c κs. tt) (λ c κs. tt) (λ c κs. tt)
+    (λ c κs. tt)
     (λ c. by-yes (c .before .before .if1 .taken) (by-op (c .two .ensures) by-ret))
+    (λ c κs. tt)
     (λ c. let c2 = c .before .before in let c3 = c2 .before in by-no (c3 .if1 .left) (by-yes (c2 .if2 .taken) (by-op (c .two2 .ensures) by-ret)))
+    (λ c κs. tt)
     (λ c. let c2 = c .before .before in let c3 = c2 .before in by-no (c3 .if1 .left) (by-no (c2 .if2 .left) (by-op (c .two3 .ensures) by-ret))))

@@ -9,4 +9,5 @@ xmad-in-c-spec =
     tie.close
     (tie.spec
     (λ c κs. search needs)
-    (λ c. c .both .ensures))
+    (λ c κs. search needs)
+    (λ c. rw (← c .before .xmad-swaps .ensures) (c .both .ensures)))

@@ -1,0 +1,122 @@
+-- Words in bytes: what the loops over the marks keep, and what `mehkura_translate` answers case by case.
+use mathlib.Core.Path.{_≡_, refl, sym, ap, _∙_}
+use mathlib.Core.List.{List, [], _∷_, _++_, append-assoc, append-nil}
+use Prim.Native.Nat.{ℕ, zero, suc, _+_, _*_, _≤_, _<_}
+use native.Mathlib.Omega.{arith}
+use native.Mathlib.Numerals.{towards-suc}
+use lib.ListN.{length, take, drop, getD, set, length-append}
+use lib.Seq.{take-all, take-suc, take-suc-set, take-at, sets, sets-eq, length-take-le}
+use borrow.Author.Tests.{eq-eqb, ne-eqb}
+use Rattle.strip.specs.Entry.{wordAt, wordBytes, readOf, readAs, encode, kindOf, immediateOf, refsOf, short}
+use Rattle.strip.specs.declared.reader.Entry.the-variants as Of
+use Rattle.strip.specs.Format.{formatOf}
+use Rattle.strip.proofs.Encode.{Bytes, read-is}
+use Rattle.translation.specs.declared.answer.Outcome.the-variants.{Written, Refused}
+use Rattle.translation.specs.declared.answer.Refusal.{Refusal}
+use Rattle.translation.specs.declared.answer.Translated.{Translated}
+use Rattle.translation.specs.Strip as T
+use Rattle.translation.specs.Whole.{answered}
+use Rattle.host.specs.Marks.{wordsIn, bytesOf, answer, answerOf, given, translateAnswer}
+
+-- ---- the marks, word by word
+
+-- no word is read yet, one more, all
+pub words-start : (bytes : List ℕ) → [] ≡ wordsIn 0 bytes
+unfolding wordsIn
+words-start bytes = refl
+
+pub words-next : (bytes marks : List ℕ) (i : ℕ) → i < length marks → take i marks ≡ wordsIn i bytes
+    → take (suc i) (set marks i (wordAt bytes (i * 4))) ≡ wordsIn (suc i) bytes
+unfolding wordsIn
+words-next bytes marks i h e = rw (take-suc-set marks i (wordAt bytes (i * 4)) h, e)
+
+pub words-all : (bytes marks : List ℕ) (i : ℕ) → 32 ≤ i → i ≤ 32 → length marks ≡ 32 → take i marks ≡ wordsIn i bytes → marks ≡ wordsIn 32 bytes
+words-all bytes marks i l g h e = let k : i ≡ 32 = omega arith in sym (take-all i marks (omega arith)) ∙ e ∙ ap (λ (n : ℕ). wordsIn n bytes) k
+
+-- the same for writing
+pub bytes-start : [] ≡ bytesOf []
+unfolding bytesOf
+bytes-start = refl
+
+bytes-snoc : (ws : List ℕ) (w : ℕ) → bytesOf (ws ++ (w ∷ [])) ≡ bytesOf ws ++ wordBytes w
+unfolding bytesOf
+bytes-snoc [] w = append-nil (wordBytes w)
+bytes-snoc (x ∷ ws) w = ap (λ (l : List ℕ). wordBytes x ++ l) (bytes-snoc ws w) ∙ sym (append-assoc (wordBytes x) (bytesOf ws) (wordBytes w))
+
+put : (l vs : List ℕ) (n m : ℕ) → n + length vs ≤ length l → n + length vs ≡ m → take m (sets l n vs) ≡ take n l ++ vs
+put l vs n m h e =
+    let t : length (take n l) ≡ n = length-take-le n l (omega arith) in
+    let k : length (take n l ++ vs) ≡ m = rw (length-append, t) e in
+    rw (sets-eq vs l n h) (take-at (take n l ++ vs) (drop (n + length vs) l) m k)
+
+pub bytes-next : (marks bytes : List ℕ) (i : ℕ) → i < length marks → i * 4 + 4 ≤ length bytes → take (i * 4) bytes ≡ bytesOf (take i marks)
+    → take (suc i * 4) (sets bytes (i * 4) (wordBytes (getD marks i 0))) ≡ bytesOf (take (suc i) marks)
+bytes-next marks bytes i h k e = rw (put bytes (wordBytes (getD marks i 0)) (i * 4) (suc i * 4) k (omega arith), e, take-suc marks i 0 h, bytes-snoc)
+
+pub bytes-all : (marks bytes : List ℕ) (i : ℕ) → length marks ≤ i → length bytes ≤ i * 4 → take (i * 4) bytes ≡ bytesOf (take i marks) → bytes ≡ bytesOf marks
+bytes-all marks bytes i h k e = sym (take-all (i * 4) bytes k) ∙ e ∙ ap bytesOf (take-all i marks h)
+
+-- ---- the answer
+module _ (bytes marks out : List ℕ) (written : ℕ) where
+  pub wrong-marks : (length marks ≡ 128 → ⊥) → answer 1 written marks out ≡ translateAnswer bytes written marks out
+  unfolding translateAnswer
+  wrong-marks h = rw (ne-eqb (length marks) 128 h)
+
+  pub tried : {used : List ℕ} {a : T.Answer} → length marks ≡ 128 → used ≡ wordsIn 32 marks
+      → a ≡ T.translation bytes used out → given a written marks ≡ translateAnswer bytes written marks out
+  unfolding translateAnswer
+  tried e p q = rw (eq-eqb (length marks) 128 e, ← p, ← q)
+
+module _ (r : Translated) (out : List ℕ) (written : ℕ) (marks : List ℕ) where
+  pub translated : {n : ℕ} {marks' : List ℕ} → r .outcome ≡ Written n → marks' ≡ bytesOf (r .«cbuf_used»)
+      → answer 0 n marks' out ≡ given (answered r out) written marks
+  unfolding answerOf
+  translated o p = rw (o, p)
+
+  pub refused : {n : ℕ} {f : Refusal} → r .outcome ≡ Refused f → n ≡ T.refusalNumber f → answer n written marks out ≡ given (answered r out) written marks
+  unfolding answerOf
+  refused o p = rw (o, p)
+
+-- ---- what is read and written back is what stood there
+
+-- four bytes and their word
+four : (x y z w : ℕ) → x < 256 → y < 256 → z < 256 → w < 256 → wordBytes ((x + y * 256) + (z + w * 256) * 65536) ≡ x ∷ y ∷ z ∷ w ∷ []
+unfolding readOf readAs encode kindOf immediateOf refsOf short formatOf
+four x y z w hx hy hz hw = ap behind (read-is s small (Of.Word (wordAt s 1)) 5 refl .bytes)
+  where
+    s : List ℕ
+    s = 1 ∷ x ∷ y ∷ z ∷ w ∷ []
+
+    small : Bytes s
+    small zero = omega arith
+    small (suc zero) = hx
+    small (suc (suc zero)) = hy
+    small (suc (suc (suc zero))) = hz
+    small (suc (suc (suc (suc zero)))) = hw
+    small (suc (suc (suc (suc (suc i))))) = omega arith
+
+    behind : List ℕ → List ℕ
+    behind [] = []
+    behind (a ∷ l) = l
+
+four-at : (l : List ℕ) → Bytes l → (k : ℕ) → k + 4 ≤ length l → take k l ++ wordBytes (wordAt l k) ≡ take (suc (suc (suc (suc k)))) l
+four-at l h k b =
+    rw (
+      four (getD l k 0) (getD l (k + 1) 0) (getD l (k + 2) 0) (getD l (k + 2 + 1) 0) (h k) (h (k + 1)) (h (k + 2)) (h (k + 2 + 1)),
+      take-suc l (suc (suc (suc k))) 0 (omega arith),
+      take-suc l (suc (suc k)) 0 (omega arith),
+      take-suc l (suc k) 0 (omega arith),
+      take-suc l k 0 (omega arith),
+    )
+    (simp (append-assoc, towards-suc))
+
+pub marks-back : (n : ℕ) (l : List ℕ) → Bytes l → n * 4 ≤ length l → bytesOf (wordsIn n l) ≡ take (n * 4) l
+unfolding wordsIn
+marks-back zero l h k = sym bytes-start
+marks-back (suc n) l h k =
+    let e : suc n * 4 ≡ suc (suc (suc (suc (n * 4)))) = omega arith in
+    rw (bytes-snoc, marks-back n l h (omega arith), e) (four-at l h (n * 4) (omega arith))
+
+-- marks that nothing raises come back byte for byte
+pub marks-kept : (l : List ℕ) → Bytes l → length l ≡ 128 → bytesOf (wordsIn 32 l) ≡ l
+marks-kept l h e = marks-back 32 l h (omega arith) ∙ take-all 128 l (omega arith)

@@ -1,0 +1,31 @@
+use Prim.Native.Nat.{_≤_, _-_}
+use mathlib.Core.Path.{_≡_, refl}
+use mathlib.Core.List.{map}
+use native.Mathlib.Omega.{arith}
+use native.Mathlib.Numerals.{add-one}
+use borrow.Author.Needs.{needs}
+use lib.ListN.{length, length-set, take}
+use Rattle.host.specs.States.{isSet}
+use Rattle.host.proofs.Laws.{fill, filled}
+use Rattle.host.proofs.states.read_truths.Statement.{statement}
+use Rattle.host.proofs.states.read_truths.Tie as tie
+
+abbrev Inv-loop : tie.InvT-loop
+Inv-loop from to₀ i₀ to i = (i ≤ length to) × (length to ≡ length to₀) × (take i to ≡ map isSet (take i from))
+
+abbrev μ-loop : tie.MeasureT-loop
+μ-loop from to₀ i₀ to i = length to₀ - i
+
+pub read-truths-spec : {M : Type 1} → statement M
+read-truths-spec =
+    tie.close
+    (tie.spec Inv-loop μ-loop
+    (λ c. (omega arith, refl, refl))
+    (λ c. omega arith)
+    (λ c. omega arith)
+    (λ c. omega arith)
+    (λ c. omega arith)
+    (λ c. let l = c .before .before .loop in let a = c .before .before .before .args in
+    (simp length-set (omega arith), simp length-set (l .inv .1), rw (add-one) (fill isSet (a .from .now) (l .to) (l .i) 0 (omega arith) (omega arith) (l .inv .2))))
+    (λ c. search needs)
+    (λ c. filled isSet (c .before .before .args .from .now) (c .before .loop .to) (c .before .loop .i) (omega arith) (omega arith) (c .before .loop .inv .2)))

@@ -1,0 +1,181 @@
+-- Text at a place of a buffer: hex, decimal, and the answers that it spells.
+use Prim.Native.Nat.{ℕ, zero, suc, _+_, _*_, _/_, _%_, _^_, _-_, _≤_, _<_}
+use mathlib.Core.Path.{_≡_, refl, ap, sym, _∙_}
+use mathlib.Core.Bool.{Bool, true, false, cond}
+use mathlib.Core.List.{List, [], _∷_, _++_}
+use native.Mathlib.Omega.{arith}
+use native.Mathlib.Numerals.{add-one}
+use borrow.Author.Tests.{lt-ltb, le-ltb, leb-true, leb-false}
+use lib.Dec.{eqb, ltb, leb}
+use lib.Pow.{pow-add}
+use lib.ListN.{length, take, getD, set, replicate, length-append, length-drop, length-set}
+use lib.Seq.{sets, take-suc, length-take-le, length-sets}
+use Rattle.io.specs.Counts.{Counts}
+use Rattle.io.specs.Digits.{glyph, digits, Fewest}
+use Rattle.translation.specs.Insn.{Insn}
+use Rattle.translation.specs.Strip.{Answer, refusalNumber, strip, insnOf, known, laneMov, byteThree, refused, fitted, admitted, translation}
+use Rattle.translation.specs.declared.answer.Outcome.{Outcome}
+use Rattle.translation.specs.declared.answer.Outcome.the-variants.{Written, Refused}
+use Rattle.translation.specs.declared.answer.Refusal.{Refusal}
+use Rattle.translation.specs.declared.answer.Refusal.the-variants.{BadLength, UnknownKind, UnknownForm, LaneMov, ByteThree, NoRoom}
+use Rattle.translation.proofs.Fits.{sets-append}
+use Rattle.strip_printer.specs.Line.{hexOf, spelled, decimalOf, refusedText, writtenOf, textOf}
+
+-- ---- hex
+pub hex-append : (a b : List ℕ) → hexOf (a ++ b) ≡ hexOf a ++ hexOf b
+unfolding hexOf
+hex-append [] b = refl
+hex-append (x ∷ a) b = ap (λ (l : List ℕ). glyph (x / 16) ∷ (glyph (x % 16) ∷ l)) (hex-append a b)
+
+pub length-hex : (l : List ℕ) → length (hexOf l) ≡ 2 * length l
+unfolding hexOf
+length-hex [] = refl
+length-hex (x ∷ l) = omega (arith, length-hex l)
+
+-- ---- a text that grows at a place
+pub hex-none : (base : List ℕ) (at : ℕ) → base ≡ sets base at (hexOf [])
+unfolding hexOf
+hex-none base at = refl
+
+pub copy-more : (from base out : List ℕ) (at i : ℕ) → i < length from → out ≡ sets base at (take i from) → length (take i from) ≡ i
+    → set out (at + i) (getD from i 0) ≡ sets base at (take (suc i) from)
+copy-more from base out at i h e l = rw (take-suc from i 0 h, e) (sets-append (take i from) (getD from i 0 ∷ []) base at (at + i) (omega arith))
+
+pub hex-more : (bytes base out : List ℕ) (at i : ℕ) → i < length bytes → out ≡ sets base at (hexOf (take i bytes)) → length (take i bytes) ≡ i
+    → set (set out (at + 2 * i) (glyph (getD bytes i 0 / 16))) (suc (at + 2 * i)) (glyph (getD bytes i 0 % 16)) ≡ sets base at (hexOf (take (suc i) bytes))
+unfolding hexOf
+hex-more bytes base out at i h e l =
+    let b = getD bytes i 0 in
+    rw (take-suc bytes i 0 h, hex-append, e) (sets-append (hexOf (take i bytes)) (glyph (b / 16) ∷ (glyph (b % 16) ∷ [])) base at (at + 2 * i) (omega (arith, length-hex (take i bytes))))
+
+-- a part from the front on, as code names it
+pub from-front : (room base out : List ℕ) (n at : ℕ) → out ≡ sets base at (hexOf (take (n - 0) room)) → out ≡ sets base at (hexOf (take n room))
+from-front room base out n at e = let z : n - 0 ≡ n = omega arith in rw z at e
+
+-- ---- decimal: the fewest digits are those of the definition
+pow-one : (k : ℕ) → 1 ≤ 10 ^ k
+pow-one zero = omega arith
+pow-one (suc k) = omega (arith, pow-one k)
+
+pub spelled-is : (k f n : ℕ) → Fewest 10 1 n k → k ≤ f → digits 10 k n ≡ spelled f n
+unfolding spelled
+spelled-is zero f n (a, b, c) h = absurd (omega arith)
+spelled-is (suc k) zero n w h = absurd (omega arith)
+spelled-is (suc zero) (suc f) n (a, b, c) h =
+    let e : n % 10 ≡ n = omega arith in
+    rw (e, lt-ltb n 10 (omega arith))
+spelled-is (suc (suc k)) (suc f) n (a, b, c) h =
+    let at : suc (suc k) - 1 ≡ suc k = omega arith in
+    let m : 10 ^ suc k ≤ n = rw at at (c (omega arith)) in
+    let z : 1 ≤ 10 ^ k = pow-one k in
+    rw (le-ltb n 10 (omega arith), ← spelled-is (suc k) f (n / 10) (omega arith, omega arith, λ z. let at′ : suc k - 1 ≡ k = omega arith in rw at′ (omega arith)) (omega arith))
+
+-- and there are at most twenty
+pub few : (k n : ℕ) → Fewest 10 1 n k → n < 18446744073709551616 → k ≤ 20
+few k n (a, b, c) h = by (leb k 20) refl
+  where
+    by : (t : Bool) → leb k 20 ≡ t → k ≤ 20
+    by true e = leb-true k 20 e
+    by false e =
+        let more : 20 < k = leb-false k 20 e in
+        let j : ℕ = k - 21 in
+        let at : k - 1 ≡ 20 + j = omega arith in
+        let m : 10 ^ (20 + j) ≤ n = rw at at (c (omega arith)) in
+        let p : 10 ^ (20 + j) ≡ 10 ^ 20 * 10 ^ j = pow-add 10 20 j in
+        omega (arith, pow-one j)
+
+pub record Decimal (n k : ℕ) (ds : List ℕ) : Type 0 where
+  pub text : take k ds ≡ decimalOf n
+  pub size : length (decimalOf n) ≡ k
+  pub most : k ≤ 20
+
+pub decimal-is : (n k : ℕ) (ds : List ℕ) → n < 18446744073709551616 → Counts k ds → Fewest 10 1 n k → take k ds ≡ digits 10 k n → Decimal n k ds
+unfolding decimalOf
+decimal-is n k ds h (a, b) w e =
+    let m = few k n w h in
+    let t : take k ds ≡ spelled 20 n = e ∙ spelled-is k 20 n w m in
+    record { text = t; size = sym (ap length t) ∙ sym b; most = m }
+
+-- ---- refusals
+pub refused-is : (base out : List ℕ) (at : ℕ) (r : Refusal) (b : ℕ) → out ≡ sets base at (114 ∷ 101 ∷ 102 ∷ 117 ∷ 115 ∷ 101 ∷ 100 ∷ 32 ∷ []) → b ≡ 48 + refusalNumber r
+    → set out (at + 8) b ≡ sets base at (refusedText r)
+unfolding refusedText
+refused-is base out at r b e d = rw (e, d) (sets-append (114 ∷ 101 ∷ 102 ∷ 117 ∷ 115 ∷ 101 ∷ 100 ∷ 32 ∷ []) ((48 + refusalNumber r) ∷ []) base at (at + 8) refl)
+
+pub refused-size : (r : Refusal) → length (refusedText r) ≡ 9
+unfolding refusedText
+refused-size r = refl
+
+-- ---- the two texts
+module _ (o : Outcome) (room : List ℕ) where
+  pub written : (n : ℕ) → o ≡ Written n → writtenOf o ≡ n
+  unfolding writtenOf
+  written n e = rw e
+
+  pub strip-answer : (base out : List ℕ) (at r n : ℕ) → o ≡ Written n → writtenOf o ≤ length room → writtenOf o ≤ 256 → out ≡ sets base at (hexOf (take n room)) → r ≡ at + 2 * n
+      → (out ≡ sets base at (textOf o room)) × ((r ≡ at + length (textOf o room)) × (r ≤ at + 512))
+  unfolding textOf
+  strip-answer base out at r n e h k x y =
+      let w = written n e in
+      let l : length (take n room) ≡ n = length-take-le n room (omega arith) in
+      rw e (x, (omega (arith, length-hex (take n room)), omega arith))
+
+  pub refused-answer : (base out : List ℕ) (at r : ℕ) (why : Refusal) → o ≡ Refused why → out ≡ sets base at (refusedText why) → r ≡ at + 9
+      → (out ≡ sets base at (textOf o room)) × ((r ≡ at + length (textOf o room)) × (r ≤ at + 512))
+  unfolding textOf
+  refused-answer base out at r why e x y = rw e (x, (omega (arith, refused-size why), omega arith))
+
+-- ---- a line: digits, a space, a text, the end
+pub line-is : (base o1 o3 d t : List ℕ) (at at1 at2 : ℕ) → o1 ≡ sets base at d → at1 ≡ at + length d → o3 ≡ sets (set o1 at1 32) (at1 + 1) t → at2 ≡ (at1 + 1) + length t
+    → set o3 at2 10 ≡ sets base at (d ++ (32 ∷ (t ++ (10 ∷ []))))
+line-is base o1 o3 d t at at1 at2 e1 h1 e3 h2 =
+    rw (e3, e1, add-one) (sets-append t (10 ∷ []) (set (sets base at d) at1 32) (suc at1) at2 (omega arith) ∙ sets-append d (32 ∷ (t ++ (10 ∷ []))) base at at1 h1)
+
+pub line-length : (base o1 o3 d t : List ℕ) (at at1 : ℕ) → o1 ≡ sets base at d → o3 ≡ sets (set o1 at1 32) (at1 + 1) t → length o3 ≡ length base
+line-length base o1 o3 d t at at1 e1 e3 = rw (e3, length-sets, length-set, e1, length-sets)
+
+pub line-size : (d t : List ℕ) → length (d ++ (32 ∷ (t ++ (10 ∷ [])))) ≡ length d + (length t + 2)
+line-size d t = rw (length-append, length-append) (omega arith)
+
+-- ---- answers
+pub record Fitting (out : List ℕ) (a : Answer) : Type 0 where
+  pub same : length (a .out) ≡ length out
+  pub within : writtenOf (a .outcome) ≤ length out
+
+refused-fits : (r : Refusal) (m out : List ℕ) → Fitting out (refused r m out)
+unfolding writtenOf
+refused-fits r m out = record { same = refl; within = omega arith }
+
+either-fits : (b : Bool) (x y : Answer) (out : List ℕ) → Fitting out x → Fitting out y → Fitting out (cond b x y)
+either-fits true x y out p q = p
+either-fits false x y out p q = q
+
+fitted-fits : (k : ℕ) (i : Insn) (m out : List ℕ) → Fitting out (fitted k i m out)
+unfolding fitted writtenOf
+fitted-fits k i m out = by (leb (length (strip k i)) (length out)) refl
+  where
+    by : (b : Bool) → leb (length (strip k i)) (length out) ≡ b → Fitting out (fitted k i m out)
+    by true e = let h : length (strip k i) ≤ length out = leb-true _ _ e in rw e (record { same = rw (length-append, length-drop) (omega arith); within = h })
+    by false e = rw e (refused-fits NoRoom m out)
+
+pub fits : (l m out : List ℕ) → Fitting out (translation l m out)
+unfolding translation admitted
+fits l m out =
+    let k = getD l 0 0 in
+    let i = insnOf l in
+    let three = either-fits (byteThree k i) _ _ out (refused-fits ByteThree m out) (fitted-fits k i m out) in
+    let lane = either-fits (laneMov k i) _ _ out (refused-fits LaneMov m out) three in
+    let form = either-fits (ltb 2 (i .form)) _ _ out (refused-fits UnknownForm m out) lane in
+    let kind = either-fits (known k) _ _ out form (refused-fits UnknownKind m out) in
+    either-fits (eqb (length l) 18) _ _ out kind (refused-fits BadLength m out)
+
+-- of an answer in 256 bytes
+module _ {a : Answer} (l m : List ℕ) (e : a ≡ translation l m (replicate 256 0)) where
+  pub fits-length : length (a .out) ≡ 256
+  fits-length = rw e (fits l m (replicate 256 0) .same)
+
+  pub fits-most : writtenOf (a .outcome) ≤ 256
+  fits-most = rw e (fits l m (replicate 256 0) .within)
+
+  pub fits-room : writtenOf (a .outcome) ≤ length (a .out)
+  fits-room = omega (arith, fits-length, fits-most)

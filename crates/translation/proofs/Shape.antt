@@ -1,0 +1,125 @@
+-- Every strip of a translation is in order (T5): it passes the shape test, and its bytes are the encoding of its entries.
+use mathlib.Core.Path.{_≡_, refl, sym, ap}
+use mathlib.Core.Bool.{Bool, true, false, cond, not, _&&_, false≢true}
+use mathlib.Core.List.{List, [], _∷_, _++_, append-nil}
+use mathlib.Core.Option.{some}
+use Prim.Native.Nat.{ℕ, _≤_}
+use native.Mathlib.Omega.{arith}
+use lib.Dec.{eqb, ltb, leb}
+use lib.ListN.{length, getD, take, drop}
+use lib.Seq.{take-at}
+use borrow.Author.Tests.{leb-true}
+use Rattle.strip.specs.declared.reader.Entry.the-variants as Of
+use Rattle.strip.specs.Shape.{names, ended, stripOk, decode, shapeOk, stripBytes, runBytes}
+use Rattle.strip.proofs.Tests.{and-left}
+use Rattle.strip.proofs.Run.{strips-run, strips-shape}
+use Rattle.translation.specs.Insn.{Insn}
+use Rattle.translation.specs.Code.{Code, build}
+use Rattle.translation.specs.Helpers.{p}
+use Rattle.translation.specs.Arms.{armOf}
+use Rattle.translation.specs.Strip.{Answer, guard, guardNot, block, guarded, entriesOf, strip, marked, insnOf, known, laneMov, byteThree, admits, refused, fitted, admitted, translation}
+use Rattle.translation.specs.declared.answer.Outcome.{Outcome}
+use Rattle.translation.specs.declared.answer.Outcome.the-variants.{Written, Refused}
+use Rattle.translation.specs.declared.answer.Refusal.{Refusal}
+use Rattle.translation.specs.declared.answer.Refusal.the-variants.{BadLength, UnknownKind, UnknownForm, LaneMov, ByteThree, NoRoom}
+use Rattle.translation.proofs.Fits.{bounded}
+use Rattle.translation.proofs.Arms.{arm-sized, arm-range, guard-sized, guard-kind, guard-range}
+use Rattle.translation.proofs.Typed.{typed, made, no-refs, sound}
+use Rattle.translation.proofs.InRange.{inRange, ranged, bits-lt}
+use Rattle.translation.proofs.Ordered.{Piece, InOrder, plain, in-block}
+
+-- what typed code with numbers in range builds is in order
+piece : (c : Code) (before : List ℕ) → typed [] c ≡ true → inRange c ≡ true → Piece before (build c [] (length before) .entries)
+piece c before t r =
+    let s = sound c before [] [] tt t in
+    record { inside = s .inside; bodies = s .bodies; numbers = ranged c [] (length before) r; refs = s .refs }
+
+-- T5: the strip of every kind and word is in order
+pub strip-in-order : (k : ℕ) (i : Insn) → InOrder (entriesOf k i)
+unfolding entriesOf guarded
+strip-in-order k i = go (eqb (guard i) 7) (guardNot i)
+  where
+    go : (always not : Bool) → InOrder (cond always (cond not [] (build (armOf k i) [] 0 .entries)) (block (build (p (guard i) (guardNot i)) [] 0) (armOf k i)) ++ (Of.Bare 255 ∷ []))
+    go true true = plain [] (record { inside = refl; bodies = refl; numbers = refl; refs = no-refs [] }) (omega arith)
+    go true false =
+        plain (build (armOf k i) [] 0 .entries) (piece (armOf k i) [] (arm-sized k i .typed) (arm-range k i))
+        (omega (arith, bounded (armOf k i) [] 0, arm-sized k i .bound))
+    go false not =
+        let c = p (guard i) (guardNot i) in
+        let g = build c [] 0 in
+        let s = sound c [] [] [] tt (guard-sized (guard i) (guardNot i) .typed) in
+        let t : names (made (g .entries)) 2 (g .result) ≡ true = rw (← guard-kind (guard i) (guardNot i)) (s .result) in
+        in-block (g .entries) (build (armOf k i) [] (g .next) .entries) (g .result)
+        (piece c [] (guard-sized (guard i) (guardNot i) .typed) (guard-range (guard i) (guardNot i) (bits-lt i 16 3)))
+        t
+        (rw (s .next) (piece (armOf k i) (made (g .entries)) (arm-sized k i .typed) (arm-range k i)))
+        (omega (arith, bounded c [] 0, guard-sized (guard i) (guardNot i) .bound, bounded (armOf k i) [] (g .next), arm-sized k i .bound))
+
+-- its bytes pass the shape test, and reading them finds its entries
+strip-run : (k : ℕ) (i : Insn) → strip k i ≡ runBytes (entriesOf k i ∷ [])
+unfolding strip runBytes
+strip-run k i = sym (append-nil (stripBytes (entriesOf k i)))
+
+pub strip-shape : (k : ℕ) (i : Insn) → shapeOk (strip k i) ≡ true
+strip-shape k i =
+    let o = strip-in-order k i in
+    rw (strip-run k i) (strips-shape (entriesOf k i ∷ []) (o .formed, tt) (rw (o .passes) refl))
+
+pub strip-decodes : (k : ℕ) (i : Insn) → decode (strip k i) ≡ some (entriesOf k i ∷ [])
+unfolding stripOk
+strip-decodes k i =
+    let o = strip-in-order k i in
+    rw (strip-run k i) (strips-run (entriesOf k i ∷ []) (record { ends = and-left (ended (entriesOf k i)) _ (o .passes); formed = o .formed }, tt))
+
+-- ---- for every record, marks and room
+
+abbrev isWritten : Outcome → Bool
+isWritten (Written n) = true
+isWritten (Refused r) = false
+
+abbrev lengthOf : Outcome → ℕ
+lengthOf (Written n) = n
+lengthOf (Refused r) = 0
+
+-- what an accepted translation hands back
+pub record Accepted (l m room : List ℕ) (n : ℕ) (r : Answer) : Type 0 where
+  pub size : n ≡ length (strip (getD l 0 0) (insnOf l))
+  pub fits : n ≤ length room
+  pub marks : r .marks ≡ marked (getD l 0 0) (insnOf l) m
+  pub out : r .out ≡ strip (getD l 0 0) (insnOf l) ++ drop n room
+
+pub accepted : (l m out : List ℕ) (n : ℕ) → translation l m out .outcome ≡ Written n → (admits l ≡ true) × Accepted l m out n (translation l m out)
+unfolding translation admitted fitted admits
+accepted l m out n h =
+    go (eqb (length l) 18) (known k) (ltb 2 (insnOf l .form)) (laneMov k (insnOf l)) (byteThree k (insnOf l)) (leb (length s) (length out)) (leb-true (length s) (length out)) h
+  where
+    k : ℕ
+    k = getD l 0 0
+
+    s : List ℕ
+    s = strip (getD l 0 0) (insnOf l)
+
+    Case : Bool → Answer → Type 0
+    Case b r = r .outcome ≡ Written n → (b ≡ true) × Accepted l m out n r
+
+    none : (b : Bool) (f : Refusal) → Case b (refused f m out)
+    none b f e = absurd (false≢true (ap isWritten e))
+
+    full : Answer
+    full = record { outcome = Written (length s); marks = marked k (insnOf l) m; out = s ++ drop (length s) out }
+
+    go : (a b c d e f : Bool) → (f ≡ true → length s ≤ length out) → Case (a && (b && (not c && (not d && not e)))) (cond a (cond b (cond c (refused UnknownForm m out) (cond d (refused LaneMov m out) (cond e (refused ByteThree m out) (cond f full (refused NoRoom m out))))) (refused UnknownKind m out)) (refused BadLength m out))
+    go false b c d e f w = none false BadLength
+    go true false c d e f w = none false UnknownKind
+    go true true true d e f w = none false UnknownForm
+    go true true false true e f w = none false LaneMov
+    go true true false false true f w = none false ByteThree
+    go true true false false false false w = none true NoRoom
+    go true true false false false true w = λ x. let q : length s ≡ n = ap lengthOf x in (refl, record { size = sym q; fits = rw (← q) (w refl); marks = refl; out = ap (λ (j : ℕ). s ++ drop j out) q })
+
+-- the bytes of an accepted record are one strip that passes the shape test: that of its entries
+pub accepted-strip : (l m out : List ℕ) (n : ℕ) → translation l m out .outcome ≡ Written n → take n (translation l m out .out) ≡ strip (getD l 0 0) (insnOf l)
+accepted-strip l m out n h = let a = accepted l m out n h .1 in rw (a .out) (take-at (strip (getD l 0 0) (insnOf l)) (drop n out) n (sym (a .size)))
+
+pub accepted-shape : (l m out : List ℕ) (n : ℕ) → translation l m out .outcome ≡ Written n → shapeOk (take n (translation l m out .out)) ≡ true
+accepted-shape l m out n h = rw (accepted-strip l m out n h) (strip-shape (getD l 0 0) (insnOf l))

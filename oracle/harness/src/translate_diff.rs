@@ -1,0 +1,206 @@
+//! The differential test of translation: the same records, marks and rooms through the oracle and through the library.
+
+use oracle::generate::{random_admitted, random_record, with_field};
+use oracle::record::{I2I, MOV, MOV_LANE, NAMES, RECORD_LEN, Record};
+use oracle::rng::Rng;
+
+use crate::pair::{Pair, ROOM};
+use crate::runs::Make;
+
+/// Differences that are printed in full.
+const SHOWN: u64 = 20;
+
+/// Marks start anew about once in so many records.
+const MARKS_LAST: usize = 200;
+
+/// The answers: 0 for a record that is translated, and the refusals 1 to 6.
+const ANSWERS: usize = 7;
+
+struct Class {
+    name: &'static str,
+    /// The answers that must occur.
+    must: &'static [usize],
+    /// Further answers that may occur.
+    may: &'static [usize],
+    /// Whether the marks that are lent have another length than they ought to have.
+    wrong_marks: bool,
+    make: Make,
+}
+
+const CLASSES: [Class; 7] = [
+    Class { name: "random bytes", must: &[0, 1, 2, 3, 6], may: &[4, 5], wrong_marks: false, make: bytes },
+    Class { name: "known kind", must: &[0, 3, 4, 5, 6], may: &[], wrong_marks: false, make: known_kind },
+    Class { name: "random record", must: &[0, 2, 3, 4, 5, 6], may: &[], wrong_marks: false, make: any },
+    Class { name: "admitted", must: &[0, 6], may: &[], wrong_marks: false, make: admitted },
+    Class { name: "near refusal 4", must: &[0, 2, 3, 4, 6], may: &[], wrong_marks: false, make: near_lane_mov },
+    Class { name: "near refusal 5", must: &[0, 2, 3, 5, 6], may: &[], wrong_marks: false, make: near_byte_three },
+    Class { name: "marks too long or short", must: &[1], may: &[], wrong_marks: true, make: any },
+];
+
+/// Mostly 18 bytes, else up to 40.
+fn bytes(rng: &mut Rng) -> Vec<u8> {
+    let len = if rng.one_in(4) { rng.below(41) } else { RECORD_LEN };
+    let mut bytes: Vec<u8> = (0..len).map(|_| rng.next_u64() as u8).collect();
+    // Few random bytes are a kind and a form: at times the first two are small.
+    if rng.one_in(2) {
+        for byte in bytes.iter_mut().take(2) {
+            *byte %= 40;
+        }
+    }
+    bytes
+}
+
+fn any(rng: &mut Rng) -> Vec<u8> {
+    random_record(rng).to_bytes().to_vec()
+}
+
+fn known_kind(rng: &mut Rng) -> Vec<u8> {
+    let kind = 1 + rng.below(NAMES.len()) as u8;
+    let form = if rng.one_in(8) { rng.next_u64() as u8 } else { rng.below(4) as u8 };
+    Record { kind, form, ..random_record(rng) }.to_bytes().to_vec()
+}
+
+fn admitted(rng: &mut Rng) -> Vec<u8> {
+    random_admitted(rng).to_bytes().to_vec()
+}
+
+/// A record with about one of the things that its refusal asks for wrong, under any guard.
+fn near(rng: &mut Rng, mut record: Record, kind: u8) -> Vec<u8> {
+    record.kind = match rng.below(12) {
+        0 => rng.pick(&[0, 31, 255]),
+        1 => kind - 1,
+        2 => kind + 1,
+        _ => kind,
+    };
+    record.form = if rng.one_in(8) { rng.pick(&[3, 4, 255]) } else { rng.below(3) as u8 };
+    if rng.one_in(3) {
+        record.word = with_field(record.word, 16, 4, rng.pick(&[7, 15, 0, 8]));
+    }
+    record.to_bytes().to_vec()
+}
+
+/// Refusal 4: mov with the value of the lane form, or with one bit of it changed.
+fn near_lane_mov(rng: &mut Rng) -> Vec<u8> {
+    let value = if rng.one_in(2) { MOV_LANE } else { MOV_LANE ^ 1 << rng.below(64) };
+    let record = Record { value, ..random_record(rng) };
+    near(rng, record, MOV)
+}
+
+/// Refusal 5: i2i of a half from byte 3 on, or with one of the two fields different.
+fn near_byte_three(rng: &mut Rng) -> Vec<u8> {
+    let mut record = random_record(rng);
+    let (size, byte) = match rng.below(4) {
+        0 => (rng.below(4) as u64, 3),
+        1 => (1, rng.below(4) as u64),
+        _ => (1, 3),
+    };
+    record.word = with_field(record.word, 10, 2, size);
+    record.word = with_field(record.word, 41, 2, byte);
+    near(rng, record, I2I)
+}
+
+/// Rooms by name. An admitted record fits into the first three and not into the others.
+const ROOMS: [&str; 6] = ["exact", "one byte more", "roomy", "one byte short", "shorter", "of no bytes"];
+const ROOMY: usize = 3;
+
+fn room_len(rng: &mut Rng, room: usize, strip: usize) -> usize {
+    match room {
+        0 => strip,
+        1 => strip + 1,
+        2 => strip + rng.below(ROOM - strip + 1),
+        3 => strip.saturating_sub(1),
+        4 => rng.below(strip.max(1)),
+        _ => 0,
+    }
+}
+
+/// Counts of one class.
+#[derive(Default)]
+struct Tally {
+    answers: [u64; ANSWERS],
+    different: u64,
+}
+
+impl Tally {
+    /// Prints the counts, and says whether they are as they ought to be.
+    fn report(&self, class: &Class) -> bool {
+        let mut complaint = String::new();
+        for (answer, times) in self.answers.iter().enumerate() {
+            if class.must.contains(&answer) {
+                if *times == 0 {
+                    complaint += &format!("  <- lacks answer {answer}");
+                }
+            } else if *times > 0 && !class.may.contains(&answer) {
+                complaint += &format!("  <- holds answer {answer}");
+            }
+        }
+        print!("{:<24}", class.name);
+        for times in self.answers {
+            print!(" {times:>9}");
+        }
+        println!(" {:>10}{complaint}", self.different);
+        complaint.is_empty() && self.different == 0
+    }
+}
+
+/// Compares on `count` random records, shared out among the classes. True if there is no difference and every class and
+/// room has the answers that it ought to have.
+pub fn run(count: u64, seed: u64) -> bool {
+    let mut rng = Rng::new(seed);
+    let mut pair = Pair::new(&mut rng);
+    let mut shown = 0;
+    let mut tallies: [Tally; CLASSES.len()] = Default::default();
+    // For each room: admitted records that were translated, and refused with 6.
+    let mut rooms = [[0u64; 2]; ROOMS.len()];
+    for index in 0..count {
+        let at = (index % CLASSES.len() as u64) as usize;
+        let class = &CLASSES[at];
+        let record = (class.make)(&mut rng);
+        if rng.one_in(MARKS_LAST) {
+            pair.restart(&mut rng);
+        }
+        // Half of the rooms are long enough.
+        let room = if rng.one_in(2) { rng.below(ROOMY) } else { rng.below(ROOMS.len()) };
+        let len = room_len(&mut rng, room, pair.strip_len(&record));
+        let (number, difference) = if class.wrong_marks {
+            let marks_len = rng.pick(&[0, 1, 4, 32, 64, 124, 127, 129, 132, 255, 256, 512]);
+            pair.wrong_marks(&record, len, marks_len)
+        } else {
+            pair.translate(&record, len)
+        };
+        tallies[at].answers[number as usize] += 1;
+        match number {
+            0 => rooms[room][0] += 1,
+            6 => rooms[room][1] += 1,
+            _ => {}
+        }
+        if let Some(difference) = difference {
+            tallies[at].different += 1;
+            shown += 1;
+            if shown <= SHOWN {
+                println!("difference at record {index} ({}): {difference}", class.name);
+            }
+        }
+    }
+
+    if shown > SHOWN {
+        println!("{} more differences", shown - SHOWN);
+    }
+    print!("{:<24} {:>9}", "", "accepted");
+    for number in 1..ANSWERS {
+        print!(" {number:>9}");
+    }
+    println!(" {:>10}", "different");
+    let mut fine = true;
+    for (class, tally) in CLASSES.iter().zip(&tallies) {
+        fine &= tally.report(class);
+    }
+    println!("{:<24} {:>9} {:>9}", "room", "accepted", "6");
+    for (at, (name, [accepted, refused])) in ROOMS.iter().zip(rooms).enumerate() {
+        let right = if at < ROOMY { accepted > 0 && refused == 0 } else { accepted == 0 && refused > 0 };
+        println!("{name:<24} {accepted:>9} {refused:>9}{}", if right { "" } else { "  <- wrong" });
+        fine &= right;
+    }
+    println!("{}", if fine { "no difference" } else { "FAILED" });
+    fine
+}

@@ -1,0 +1,133 @@
+//! The works in `samples/`: the files are the records named here with the reference's answers, and the works do what
+//! `samples/README.md` says of them.
+
+use oracle::evaluate::{State, evaluate};
+use oracle::print::print;
+use oracle::record::Record;
+use oracle::{SLOTS, translate};
+
+const IADD: u8 = 9;
+const P2R: u8 = 28;
+const REG: u8 = 0;
+const IMM: u8 = 2;
+
+/// No register: it reads 0.
+const RZ: u64 = 255;
+
+/// Fields of a word, by their first bit.
+const RD: u32 = 0;
+const RA: u32 = 8;
+const GUARD: u32 = 16;
+const RB: u32 = 20;
+const NUMBER: u32 = 20;
+/// p2r: flags instead of predicates, and the byte.
+const FLAGS: u32 = 40;
+const BYTE: u32 = 41;
+/// iadd: reads the carry; sets the flags.
+const EXTEND: u32 = 43;
+const CC: u32 = 47;
+
+/// A record whose word matches its opcode, under the guard that always holds.
+fn record(kind: u8, form: u8, opcode: u64, fields: &[(u32, u64)]) -> Record {
+    let value = opcode << 48;
+    let word = fields.iter().fold(value | 7 << GUARD, |word, (lo, field)| word | field << lo);
+    Record { kind, form, value, word }
+}
+
+/// R1:R0 counts up by one.
+fn count() -> Vec<Record> {
+    vec![
+        record(IADD, IMM, 0x3810, &[(RD, 0), (RA, 0), (NUMBER, 1), (CC, 1)]),
+        record(IADD, REG, 0x5c10, &[(RD, 1), (RA, 1), (RB, RZ), (EXTEND, 1)]),
+    ]
+}
+
+/// R0 = R0 + R1, and its flags into the low half of byte 1 of R2.
+fn conditions() -> Vec<Record> {
+    vec![
+        record(IADD, REG, 0x5c10, &[(RD, 0), (RA, 0), (RB, 1), (CC, 1)]),
+        record(P2R, IMM, 0x38e8, &[(RD, 2), (RA, 2), (NUMBER, 0xf), (FLAGS, 1), (BYTE, 1)]),
+    ]
+}
+
+fn bytes(records: &[Record]) -> Vec<u8> {
+    records.iter().flat_map(Record::to_bytes).collect()
+}
+
+fn run(records: &[Record]) -> Vec<u8> {
+    let mut marks = [0; SLOTS];
+    records.iter().flat_map(|record| translate(&record.to_bytes(), &mut marks).expect("admitted")).collect()
+}
+
+fn printed(records: &[u8]) -> String {
+    let mut text = Vec::new();
+    print(records, &mut text, false).expect("reading and writing bytes");
+    String::from_utf8(text).expect("text")
+}
+
+#[test]
+fn the_files_hold_the_named_records_and_the_answers_of_the_reference() {
+    assert_eq!(include_bytes!("../../samples/count.bin")[..], bytes(&count()));
+    assert_eq!(include_str!("../../samples/count.txt"), printed(&bytes(&count())));
+    assert_eq!(include_bytes!("../../samples/conditions.bin")[..], bytes(&conditions()));
+    assert_eq!(include_str!("../../samples/conditions.txt"), printed(&bytes(&conditions())));
+    let example = include_bytes!("../../samples/two_records.bin");
+    assert_eq!(include_str!("../../samples/two_records.txt"), printed(example));
+}
+
+#[test]
+fn the_readme_shows_the_strips_of_both_works() {
+    let readme = include_str!("../../README.md");
+    for line in printed(&bytes(&count())).lines().chain(printed(&bytes(&conditions())).lines()) {
+        assert!(readme.contains(&format!("\n    {line}\n")), "{line}");
+    }
+}
+
+#[test]
+fn the_count_passes_32_bits_on_the_right_step() {
+    let run = run(&count());
+    // The carry that the low part leaves is the one that counts, whatever the flag was before.
+    for carry in [false, true] {
+        for start in [0, 0xffff_fffd, 0xffff_ffff_ffff_fffe, 0x1234_5678_ffff_fffe_u64] {
+            let mut state = State { flags: [true, true, carry, true], ..State::default() };
+            state.registers[0] = start as u32;
+            state.registers[1] = (start >> 32) as u32;
+            for step in 1..=4 {
+                state = evaluate(&run, &state, &[]).expect("no constant is read");
+                let high = u64::from(state.registers[1]);
+                let low = u64::from(state.registers[0]);
+                assert_eq!(high << 32 | low, start.wrapping_add(step), "{start:x} step {step}");
+            }
+        }
+    }
+}
+
+#[test]
+fn the_number_beside_the_conditions_survives() {
+    let run = run(&conditions());
+    // a, b, and Z, S, C, O of a + b as bits 0 to 3.
+    let sums = [
+        (1, 2, 0b0000),
+        (0, 0, 0b0001),
+        (0xffff_fff0, 1, 0b0010),
+        (0xffff_ffff, 1, 0b0101),
+        (0x7fff_ffff, 1, 0b1010),
+        (0x8000_0000, 0x8000_0000, 0b1101),
+        (0xffff_ffff, 0xffff_ffff, 0b0110),
+        (0x8000_0000, 0xffff_ffff, 0b1100),
+    ];
+    for (a, b, flags) in sums {
+        // Before: any bits in the low half, the number 0 to 15 in the high half of byte 1, and other bytes.
+        for before in [0, 0xf] {
+            for number in 0..16 {
+                let mut state = State { predicates: [true; 7], ..State::default() };
+                state.registers[0] = a;
+                state.registers[1] = b;
+                state.registers[2] = 0xabcd_00ef | number << 12 | before << 8;
+                let state = evaluate(&run, &state, &[]).expect("no constant is read");
+                assert_eq!(state.registers[2], 0xabcd_00ef | number << 12 | flags << 8, "{a:x} + {b:x}");
+                assert_eq!(state.registers[0], a.wrapping_add(b));
+            }
+        }
+    }
+}
