@@ -2,6 +2,7 @@
 //!
 //! - [`translate`] and [`translate_into`] give a record's strip or its refusal.
 //! - [`shape`] tests a run of strips in plain Rust, [`evaluate`] runs it.
+//! - [`mod@meaning`] says what a record does to a state, without any strip.
 //! - [`generate`] makes random records, [`strips`] random strips, [`starts`] random states and lists of constants,
 //!   [`vectors`] the stored list of answers, [`cases`] hand-made runs with theirs.
 //! - [`mod@print`] is the strip printer.
@@ -12,6 +13,7 @@ pub mod extraction;
 pub mod format;
 pub mod generate;
 pub mod lean;
+pub mod meaning;
 pub mod print;
 pub mod record;
 mod reference;

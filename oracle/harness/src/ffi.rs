@@ -1,7 +1,7 @@
 //! The functions of the static library, each with a safe wrapper. Nothing compares these declarations with the
 //! library's own, so they are few and take numbers and byte lists only.
 
-use oracle::evaluate::State;
+use oracle::{evaluate, meaning};
 
 mod raw {
     unsafe extern "C" {
@@ -41,13 +41,25 @@ pub struct Cells {
     pub truths: [u8; 11],
 }
 
-impl From<&State> for Cells {
-    fn from(state: &State) -> Cells {
+impl Cells {
+    fn new(registers: [u32; 255], predicates: &[bool; 7], flags: &[bool; 4]) -> Cells {
         let mut truths = [0; 11];
-        for (byte, truth) in truths.iter_mut().zip(state.predicates.iter().chain(&state.flags)) {
+        for (byte, truth) in truths.iter_mut().zip(predicates.iter().chain(flags)) {
             *byte = u8::from(*truth);
         }
-        Cells { registers: state.registers, truths }
+        Cells { registers, truths }
+    }
+}
+
+impl From<&evaluate::State> for Cells {
+    fn from(state: &evaluate::State) -> Cells {
+        Cells::new(state.registers, &state.predicates, &state.flags)
+    }
+}
+
+impl From<&meaning::State> for Cells {
+    fn from(state: &meaning::State) -> Cells {
+        Cells::new(state.registers, &state.predicates, &state.flags)
     }
 }
 

@@ -3,6 +3,7 @@
 mod evaluate_bench;
 mod evaluate_diff;
 mod ffi;
+mod meaning_diff;
 mod pair;
 mod runs;
 mod shape_bench;
@@ -41,6 +42,10 @@ Usage:
       262,144), the other bits random. One thread for each processor.
   harness translate-bench
       Measures both translations on the same records and prints nanoseconds for each record.
+  harness meaning-diff COUNT SEED
+      Translates random admitted records of every kind and form, evaluates their strips, alone and several as one run,
+      and compares number and state with the meanings of 01 in plain Rust. COUNT is the number of records. Some hundred
+      thousand are needed for every kind and form to be seen under every guard and with every telling opcode value.
   harness help | --help | -h
       Prints this text.
 
@@ -72,10 +77,13 @@ fn main() -> ExitCode {
             translate_bits::run(step, seed).ok_or_else(|| format!("no step of {step}"))
         }),
         ["translate-bench"] => Ok(translate_bench::run()),
+        ["meaning-diff", count, seed] => {
+            number(count).and_then(|count| number(seed).map(|seed| meaning_diff::run(count, seed)))
+        }
         [] => Err("no command".to_owned()),
         [
             command @ ("shape-diff" | "shape-bench" | "evaluate-diff" | "evaluate-bench" | "translate-diff"
-            | "translate-bits" | "translate-bench"),
+            | "translate-bits" | "translate-bench" | "meaning-diff"),
             ..,
         ] => Err(format!("wrong arguments for `{command}`")),
         [command, ..] => Err(format!("no command `{command}`")),

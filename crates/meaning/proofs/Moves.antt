@@ -1,0 +1,37 @@
+-- The arms of moves and choices: mov, mov32i, sel.
+use mathlib.Core.Path.{_≡_, refl}
+use mathlib.Core.Bool.{true, false}
+use mathlib.Core.List.{List, []}
+use mathlib.Core.Option.{some}
+use Prim.Native.Nat.{ℕ}
+use Rattle.evaluation.specs.declared.state.State.{State}
+use Rattle.evaluation.specs.declared.machine.Refusal.the-variants.{NoConstant}
+use Rattle.evaluation.specs.Machine.{valueAt, effectOf}
+use Rattle.translation.specs.Insn.{Insn}
+use Rattle.translation.specs.Arms.{mov, mov32i, sel}
+use Rattle.meaning.specs.Meaning as M
+use Rattle.meaning.proofs.Sem.{halted, sem}
+use Rattle.meaning.proofs.Helper.{set-sem, srcB-sem, srcB-missing, missing, final, select-is, ra-sem, p-sem}
+
+module _ (cs : List ℕ) (i : Insn) (s : State) where
+  module _ (h : missing cs i ≡ false) where
+    pub mov-does : final (sem cs (mov i) [] s) ≡ some (M.mov cs i s)
+    unfolding mov valueAt
+    mov-does = rw (srcB-sem cs s i h, set-sem cs s) refl
+
+    pub sel-does : final (sem cs (sel i) [] s) ≡ some (M.sel cs i s)
+    unfolding sel valueAt effectOf
+    sel-does = rw (p-sem cs s i 39 42, ra-sem cs s i, srcB-sem cs s i h, select-is, set-sem cs s) refl
+
+  pub mov32i-does : final (sem cs (mov32i i) [] s) ≡ some (M.mov32i i s)
+  unfolding mov32i valueAt effectOf
+  mov32i-does = rw (set-sem cs s) refl
+
+  module _ (h : missing cs i ≡ true) where
+    pub mov-missing : sem cs (mov i) [] s ≡ halted NoConstant s
+    unfolding mov valueAt
+    mov-missing = rw (srcB-missing cs s i h) refl
+
+    pub sel-missing : sem cs (sel i) [] s ≡ halted NoConstant s
+    unfolding sel valueAt
+    sel-missing = rw (p-sem cs s i 39 42, ra-sem cs s i, srcB-missing cs s i h) refl

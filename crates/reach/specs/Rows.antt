@@ -1,0 +1,170 @@
+-- The table by which the code finds a reach in one pass forwards: row c holds the cells that the strips so far list where c alone is asked, and
+-- row 298 collects. That this is `reachOf` is proved (proofs/Column.antt), so a reader need not believe this page.
+use Prim.Native.Nat.{ℕ, zero, suc, _+_, _*_, _-_, _/_, _%_, _^_, _<_}
+use mathlib.Core.Path.{_≡_}
+use mathlib.Core.List.{List, []}
+use mathlib.Core.Option.{Option·getD}
+use mathlib.Core.Bool.{Bool, false, cond, _&&_, _||_}
+use lib.Dec.{ltb, eqb}
+use lib.Bits.{bitOr}
+use lib.ListN.{length, getD, set}
+use Rattle.strip.specs.declared.reader.Entry.{Entry}
+use Rattle.strip.specs.declared.reader.Entry.the-variants as Of
+use Rattle.strip.specs.Shape.{decode}
+use Rattle.reach.specs.declared.cells.Cells.{Cells}
+use Rattle.reach.specs.declared.walk.Seen.{Seen}
+use Rattle.reach.specs.Reach.{listed, table, reachOf}
+
+-- ---- cells by number: registers from 0, predicates from 255, flags from 262, slots from 266 on, 298 in all
+
+abbrev pub kindNo : ℕ → ℕ
+kindNo x = cond (ltb x 255) 4 (cond (ltb x 262) 5 (cond (ltb x 266) 6 10))
+
+abbrev pub numberNo : ℕ → ℕ
+numberNo x = cond (ltb x 255) x (cond (ltb x 262) (x - 255) (cond (ltb x 266) (x - 262) (x - 266)))
+
+unfoldable pub listedNo : Cells → ℕ → Bool
+listedNo c x = listed c (kindNo x) (numberNo x)
+
+-- the number of cell n of those from first on, or 298 where there is no such cell
+unfoldable pub placed : ℕ → ℕ → ℕ → ℕ
+placed n limit first = cond (ltb n limit) (first + n) 298
+
+-- of the cell that an entry of kind j loads; a note loads none
+unfoldable pub loadPlace : ℕ → ℕ → ℕ
+loadPlace j n =
+    cond (eqb j 4) (placed n 255 0)
+    (cond (eqb j 5) (placed n 7 255) (cond (eqb j 10) (placed n 32 266) (cond (eqb j 110) 298 (placed n 4 262))))
+
+unfoldable pub storePlace : ℕ → ℕ → ℕ
+storePlace j n = cond (eqb j 7) (placed n 255 0) (cond (eqb j 8) (placed n 7 255) (placed n 4 262))
+
+-- ---- rows of five words
+
+abbrev pub Sized : List ℕ → Type 0
+Sized t = length t ≡ 1495
+
+-- cell d is in row r
+unfoldable pub bit : List ℕ → ℕ → ℕ → Bool
+bit t r d = eqb (getD t (r * 5 + d / 64) 0 / 2 ^ (d % 64) % 2) 1
+
+unfoldable pub setRow : List ℕ → ℕ → (a b c d e : ℕ) → List ℕ
+setRow t r a b c d e = set (set (set (set (set t (r * 5) a) (r * 5 + 1) b) (r * 5 + 2) c) (r * 5 + 3) d) (r * 5 + 4) e
+
+abbrev pub wordOr : List ℕ → ℕ → ℕ → ℕ
+wordOr t i j = bitOr (getD t i 0) (getD t j 0)
+
+unfoldable pub joinRow : List ℕ → ℕ → ℕ → List ℕ
+joinRow t r s =
+    setRow t r (wordOr t (r * 5) (s * 5)) (wordOr t (r * 5 + 1) (s * 5 + 1)) (wordOr t (r * 5 + 2) (s * 5 + 2)) (wordOr t (r * 5 + 3) (s * 5 + 3))
+    (wordOr t (r * 5 + 4) (s * 5 + 4))
+
+unfoldable pub copyRow : List ℕ → ℕ → ℕ → List ℕ
+copyRow t r s = setRow t r (getD t (s * 5) 0) (getD t (s * 5 + 1) 0) (getD t (s * 5 + 2) 0) (getD t (s * 5 + 3) 0) (getD t (s * 5 + 4) 0)
+
+unfoldable pub wipeRow : List ℕ → ℕ → List ℕ
+wipeRow t r = setRow t r 0 0 0 0 0
+
+-- each cell has itself, row 298 nothing
+pub record Begun (t : List ℕ) : Type 0 where
+  pub sized : Sized t
+  pub own : (x d : ℕ) → x < 299 → d < 298 → bit t x d ≡ ltb x 298 && eqb x d
+
+-- ---- an entry
+
+-- a stored cell gets what was collected, beside what it had where the strip holds an open
+unfoldable pub stored : Bool → List ℕ → ℕ → List ℕ
+stored o t r = cond o (joinRow t r 298) (copyRow t r 298)
+
+-- the first m of the stored cells
+unfoldable pub settled : Bool → List ℕ → List ℕ → ℕ → List ℕ
+settled o t cs zero = t
+settled o t cs (suc m) = stored o (settled o t cs m) (getD cs m 0)
+
+abbrev pub none : Seen
+none = record { count = 0; block = false }
+
+unfoldable pub rowsAfter : List ℕ → List ℕ → Seen → Entry → List ℕ
+rowsAfter t cs s (Of.Bare k) = cond (eqb k 255) (wipeRow (settled (s .block) t cs (s .count)) 298) t
+rowsAfter t cs s (Of.Word w) = t
+rowsAfter t cs s (Of.Cell k n) = joinRow t 298 (loadPlace k n)
+rowsAfter t cs s (Of.Store k n r) = t
+rowsAfter t cs s (Of.One k a) = t
+rowsAfter t cs s (Of.Two k a b) = t
+rowsAfter t cs s (Of.Three k a b c) = t
+rowsAfter t cs s (Of.Four k a b c d) = t
+
+unfoldable pub storedAfter : List ℕ → Seen → Entry → List ℕ
+storedAfter cs s (Of.Bare k) = cs
+storedAfter cs s (Of.Word w) = cs
+storedAfter cs s (Of.Cell k n) = cs
+storedAfter cs s (Of.Store k n r) = set cs (s .count) (storePlace k n)
+storedAfter cs s (Of.One k a) = cs
+storedAfter cs s (Of.Two k a b) = cs
+storedAfter cs s (Of.Three k a b c) = cs
+storedAfter cs s (Of.Four k a b c d) = cs
+
+unfoldable pub seenAfter : Seen → Entry → Seen
+seenAfter s (Of.Bare k) = cond (eqb k 255) none s
+seenAfter s (Of.Word w) = s
+seenAfter s (Of.Cell k n) = s
+seenAfter s (Of.Store k n r) = record { count = s .count + 1; block = s .block }
+seenAfter s (Of.One k a) = record { count = s .count; block = s .block || eqb k 100 }
+seenAfter s (Of.Two k a b) = s
+seenAfter s (Of.Three k a b c) = s
+seenAfter s (Of.Four k a b c d) = s
+
+-- the arrays have their lengths, and the stored cells are cells
+pub record Kept (t cs : List ℕ) : Type 0 where
+  pub sized : Sized t
+  pub room : length cs ≡ 64
+  pub cells : (i : ℕ) → getD cs i 0 < 299
+
+-- what an entry makes of the arrays and of what was seen
+pub record Steps (t cs : List ℕ) (s : Seen) (e : Entry) (t′ cs′ : List ℕ) (s′ : Seen) : Type 0 where
+  pub rows : t′ ≡ rowsAfter t cs s e
+  pub stored : cs′ ≡ storedAfter cs s e
+  pub seen : s′ ≡ seenAfter s e
+
+-- ---- a run
+
+-- one of the first n numbers passes the test
+unfoldable pub any : ℕ → (ℕ → Bool) → Bool
+any zero f = false
+any (suc n) f = any n f || f n
+
+-- what the table says of cell d: it is collected, or in the row of an asked cell
+unfoldable pub found : List ℕ → Cells → ℕ → Bool
+found t c d = bit t 298 d || any 298 (λ x. listedNo c x && bit t x d)
+
+-- the arrays of a list of cells have their lengths
+pub record Whole (c : Cells) : Type 0 where
+  pub regs : length (c .regs) ≡ 255
+  pub preds : length (c .preds) ≡ 7
+  pub flags : length (c .flags) ≡ 4
+  pub slots : length (c .slots) ≡ 32
+
+-- the table holds the reach of a run
+pub record Holds (t run : List ℕ) : Type 0 where
+  pub sized : Sized t
+  pub reach : (c : Cells) → Whole c → (d : ℕ) → d < 298 → found t c d ≡ listedNo (reachOf (Option·getD (decode run) []) c) d
+
+-- the rows of the first n cells of a list, from row first on, collected
+unfoldable pub gathered : List ℕ → List Bool → ℕ → ℕ → List ℕ
+gathered t cs first zero = t
+gathered t cs first (suc n) = cond (getD cs n false) (joinRow (gathered t cs first n) 298 (first + n)) (gathered t cs first n)
+
+-- ---- the answer
+
+abbrev pub cellsIn : List Bool → List Bool → List Bool → List Bool → Cells
+cellsIn rs ps fs ss = record { regs = rs; preds = ps; flags = fs; slots = ss }
+
+-- the rows of the asked cells, collected
+unfoldable pub collected : List ℕ → Cells → List ℕ
+collected t c = gathered (gathered (gathered (gathered t (c .regs) 0 255) (c .preds) 255 7) (c .flags) 262 4) (c .slots) 266 32
+
+-- the cells that row 298 holds
+unfoldable pub shown : List ℕ → Cells
+shown t =
+    cellsIn (table 255 (λ i. bit t 298 (0 + i))) (table 7 (λ i. bit t 298 (255 + i))) (table 4 (λ i. bit t 298 (262 + i)))
+    (table 32 (λ i. bit t 298 (266 + i)))

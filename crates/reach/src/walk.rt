@@ -1,0 +1,207 @@
+// The reach of a run, in one pass forwards. The rule of a strip is additive in the listed cells, so the strips so far are a table of rows: what
+// they list where one cell alone is asked.
+ghost use mathlib.Core.Path.{_≡_};
+ghost use mathlib.Core.Bool.{true};
+ghost use mathlib.Core.List.{List};
+ghost use Prim.Native.Nat.{ℕ, _+_, _≤_, _<_};
+ghost use lib.ListN.{length, getD};
+ghost use Rattle.strip.specs.Shape.{shapeOk};
+ghost use Rattle.reach.specs.Reach.{reached};
+ghost use Rattle.reach.specs.Rows.{Sized, Begun, Holds, Kept, Steps, Whole, placed, loadPlace, storePlace, none, cellsIn, collected, shown};
+use crate::cells::Cells;
+use crate::cells::Outcome;
+use crate::cells::Reached;
+use crate::rows::begin;
+use crate::rows::gather;
+use crate::rows::join;
+use crate::rows::settle;
+use crate::rows::spread;
+use crate::rows::wipe;
+use strip::Entry;
+use strip::Read;
+
+// The number of cell n of those from first on; 298 where it is out of their range.
+fn placed(n: u8, limit: u8, first: usize) -> usize
+    requires { ⌜ first + limit ≤ 298 ⌝ }
+    ensures { λ r. ⌜ (r ≡ placed n limit first) × (r < 299) ⌝ }
+{
+    if n < limit { first + n as usize } else { 298 }
+}
+
+// Of the cell that an entry loads; a note loads none.
+fn load_place(k: u8, n: u8) -> usize
+    ensures { λ r. ⌜ (r ≡ loadPlace k n) × (r < 299) ⌝ }
+{
+    if k == 4 {
+        return placed(n, 255, 0);
+    }
+    if k == 5 {
+        return placed(n, 7, 255);
+    }
+    if k == 10 {
+        return placed(n, 32, 266);
+    }
+    if k == 110 {
+        return 298;
+    }
+    placed(n, 4, 262)
+}
+
+// Of the cell that an entry stores.
+fn store_place(k: u8, n: u8) -> usize
+    ensures { λ r. ⌜ (r ≡ storePlace k n) × (r < 299) ⌝ }
+{
+    if k == 7 {
+        return placed(n, 255, 0);
+    }
+    if k == 8 {
+        return placed(n, 7, 255);
+    }
+    placed(n, 4, 262)
+}
+
+// Of the strip so far: how many cells it stores, and whether it holds an open.
+struct Seen {
+    count: usize,
+    block: bool,
+}
+
+impl Seen {
+    fn none() -> Seen
+        ensures { λ r. ⌜ r ≡ none ⌝ }
+    {
+        Seen {
+            count: 0,
+            block: false,
+        }
+    }
+
+    // True, false, close, end. At the end the stored cells get what was collected, and a strip begins.
+    fn bare(self, k: u8, rows: &mut [u64], stored: &[usize]) -> Seen
+        requires { ⌜ Kept (now rows) (now stored) × (self .count < 64) ⌝ }
+        ensures { λ r. ⌜ Steps (now (rows .entry)) (now (stored .entry)) self (Entry.Bare k) (now (rows .exit)) (now (stored .entry)) r ⌝ }
+    {
+        if k == 255 {
+            settle(rows, stored, self.count, self.block);
+            wipe(rows, 298);
+            return Seen::none();
+        }
+        self
+    }
+
+    fn store(mut self, k: u8, n: u8, stored: &mut [usize]) -> Seen
+        requires { ⌜ (length (now stored) ≡ 64) × (self .count < 64) ⌝ }
+        ensures { λ r. ⌜ ((t : List ℕ) (a : ℕ) → Steps t (now (stored .entry)) self (Entry.Store k n a) t (now (stored .exit)) r) ⌝ }
+    {
+        let m = self.count;
+        stored[m] = store_place(k, n);
+        self.count = m + 1;
+        self
+    }
+
+    fn one(mut self, k: u8) -> Seen
+        ensures { λ r. ⌜ ((t cs : List ℕ) (a : ℕ) → Steps t cs self (Entry.One k a) t cs r) ⌝ }
+    {
+        if k == 100 {
+            self.block = true;
+        }
+        self
+    }
+
+    // An entry that was read.
+    fn step(self, e: Entry, rows: &mut [u64], stored: &mut [usize]) -> Seen
+        requires { ⌜ Kept (now rows) (now stored) × (self .count < 64) ⌝ }
+        ensures { λ r. ⌜ Steps (now (rows .entry)) (now (stored .entry)) self e (now (rows .exit)) (now (stored .exit)) r ⌝ }
+    {
+        match e {
+            Entry::Bare(k) => return self.bare(k, rows, stored),
+            Entry::Word(_) => return self,
+            Entry::Cell(k, n) => {
+                join(rows, 298, load_place(k, n));
+                return self;
+            }
+            Entry::Store(k, n, _) => return self.store(k, n, stored),
+            Entry::One(k, _) => return self.one(k),
+            Entry::Two(_, _, _) => return self,
+            Entry::Three(_, _, _, _) => return self,
+            Entry::Four(_, _, _, _, _) => return self,
+        }
+    }
+}
+
+// The strips of a run that is in order.
+fn pass(run: &[u8], rows: &mut [u64])
+    requires { ⌜ Begun (now rows) × (shapeOk (now run) ≡ true) ⌝ }
+    ensures { λ _. ⌜ Holds (now (rows .exit)) (now (run .entry)) ⌝ }
+{
+    let mut stored = [0usize; 64];
+    let mut s = Seen::none();
+    let mut at = 0;
+    while at < run.len() {
+        let Read::Found(e, n) = strip::read_entry(&run[at..]) else {
+            return;
+        };
+        s = s.step(e, rows, &mut stored);
+        at = at + n;
+    }
+}
+
+// The rows of the asked cells, collected.
+fn collect_asked(rows: &mut [u64], regs: &[bool], preds: &[bool], flags: &[bool], slots: &[bool])
+    requires { ⌜ Sized (now rows) × Whole (cellsIn (now regs) (now preds) (now flags) (now slots)) ⌝ }
+    ensures { λ _. ⌜ now (rows .exit) ≡ collected (now (rows .entry)) (cellsIn (now (regs .entry)) (now (preds .entry)) (now (flags .entry)) (now (slots .entry))) ⌝ }
+{
+    gather(rows, regs, 0);
+    gather(rows, preds, 255);
+    gather(rows, flags, 262);
+    gather(rows, slots, 266);
+}
+
+// What is collected, as cells.
+fn show(rows: &[u64], regs: &mut [bool], preds: &mut [bool], flags: &mut [bool], slots: &mut [bool])
+    requires { ⌜ Sized (now rows) × Whole (cellsIn (now regs) (now preds) (now flags) (now slots)) ⌝ }
+    ensures { λ _. ⌜ cellsIn (now (regs .exit)) (now (preds .exit)) (now (flags .exit)) (now (slots .exit)) ≡ shown (now (rows .entry)) ⌝ }
+{
+    spread(rows, regs, 0);
+    spread(rows, preds, 255);
+    spread(rows, flags, 262);
+    spread(rows, slots, 266);
+}
+
+// The cells in the rows of the asked ones.
+fn answer(rows: &mut [u64], asked: Cells) -> Reached
+    requires { ⌜ Sized (now rows) ⌝ }
+    ensures { λ r. ⌜ r ≡ record { cells = shown (collected (now (rows .entry)) asked); outcome = Outcome.Done } ⌝ }
+{
+    let mut regs = asked.regs;
+    let mut preds = asked.preds;
+    let mut flags = asked.flags;
+    let mut slots = asked.slots;
+    collect_asked(rows, &regs, &preds, &flags, &slots);
+    show(rows, &mut regs, &mut preds, &mut flags, &mut slots);
+    Reached {
+        cells: Cells {
+            regs: regs,
+            preds: preds,
+            flags: flags,
+            slots: slots,
+        },
+        outcome: Outcome::Done,
+    }
+}
+
+// The cells at the start of a run that can matter to the asked ones at its end. A run that is not in order is refused, with the asked cells.
+pub fn reach(run: &[u8], asked: Cells) -> Reached
+    ensures { λ r. ⌜ r ≡ reached (now (run .entry)) asked ⌝ }
+{
+    if strip::shape_ok(run) {
+        let mut rows = [0u64; 1495];
+        begin(&mut rows);
+        pass(run, &mut rows);
+        return answer(&mut rows, asked);
+    }
+    Reached {
+        cells: asked,
+        outcome: Outcome::BadShape,
+    }
+}
