@@ -6,7 +6,8 @@ use std::{env, fs};
 
 const USUAL_DIR: &str = "../../target/staticlib";
 const VARIABLE: &str = "MEHKURA_STATICLIB_DIR";
-const LIBRARIES: [&str; 2] = ["strip_host", "host"];
+/// The crates with C linkage, each a library.
+const LIBRARIES: &[&str] = &["strip_host", "evaluation_host", "host"];
 
 fn main() {
     let package = PathBuf::from(env::var_os("CARGO_MANIFEST_DIR").expect("set by cargo"));

@@ -1,10 +1,10 @@
 //! The judge of the port: the unchanged text of the reference translator, run over stand-ins that record each call.
 //!
 //! - [`translate`] and [`translate_into`] give a record's strip or its refusal.
-//! - [`shape`] tests a run of strips in plain Rust, [`evaluate`] runs it.
+//! - [`shape`] tests a run of strips in plain Rust, [`evaluate`] runs it, [`mod@reach`] says which cells matter to it.
 //! - [`mod@meaning`] says what a record does to a state, without any strip.
 //! - [`generate`] makes random records, [`strips`] random strips, [`starts`] random states and lists of constants,
-//!   [`vectors`] the stored list of answers, [`cases`] hand-made runs with theirs.
+//!   [`vectors`] the stored list of answers, [`cases`] hand-made runs with theirs, [`works`] the lines of the two works.
 //! - [`mod@print`] is the strip printer.
 
 pub mod cases;
@@ -15,6 +15,7 @@ pub mod generate;
 pub mod lean;
 pub mod meaning;
 pub mod print;
+pub mod reach;
 pub mod record;
 mod reference;
 pub mod rng;
@@ -23,6 +24,7 @@ mod standins;
 pub mod starts;
 pub mod strips;
 pub mod vectors;
+pub mod works;
 
 use format::Entry;
 use record::Record;

@@ -7,7 +7,7 @@ use oracle::format::value_count;
 use oracle::generate::{random_admitted, random_record};
 use oracle::record::NAMES;
 use oracle::rng::Rng;
-use oracle::{SLOTS, cases, format, print, translate_entries, vectors};
+use oracle::{SLOTS, cases, format, print, translate_entries, vectors, works};
 
 const HELP: &str = "\
 oracle: the unchanged text of the reference translator, run over recording stand-ins
@@ -31,6 +31,9 @@ Usage:
       lent and the run, both in hex (`-` for a run of no bytes), and a name.
       --answers writes the lines that the program must write: 0 or the number of the refusal, each cell that is not
       as at the start, the name.
+  oracle works [--records]
+      Writes the lines that the program crates/works must write for the two works of samples/, by the meanings.
+      --records writes its input.
   oracle count COUNT SEED
       Translates COUNT random records and prints for each kind how many were accepted and refused, and the most
       entries, values and bytes in one strip.
@@ -83,9 +86,11 @@ fn run(args: &[&str]) -> Result<(), Failure> {
         ["vectors"] => write_all(output, &vectors::stored_list()),
         ["cases"] => write_all(output, cases::lines().as_bytes()),
         ["cases", "--answers"] => write_all(output, cases::answers().as_bytes()),
+        ["works"] => write_all(output, works::lines().as_bytes()),
+        ["works", "--records"] => write_all(output, &works::input()),
         ["count", count, seed] => statistics(output, number(count)?, number(seed)?),
         [] => Err(Failure::Usage("no command".to_owned())),
-        [command @ ("print" | "gen" | "vectors" | "cases" | "count"), ..] => {
+        [command @ ("print" | "gen" | "vectors" | "cases" | "works" | "count"), ..] => {
             Err(Failure::Usage(format!("wrong arguments for `{command}`")))
         }
         [command, ..] => Err(Failure::Usage(format!("no command `{command}`"))),

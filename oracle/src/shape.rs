@@ -6,9 +6,32 @@ use crate::format::MAX_ENTRIES;
 
 /// Whether the bytes are a run of well-formed strips. No bytes are an empty run, which is well-formed.
 pub fn shape_ok(run: &[u8]) -> bool {
+    shape_ok_watched(run, &mut ())
+}
+
+/// What is told of the entries while their shape is tested, strip by strip. What is told before the test fails is not to
+/// be relied on.
+pub(crate) trait Watch {
+    fn load_register(&mut self, _register: u8) {}
+    fn load_predicate(&mut self, _predicate: u8) {}
+    fn load_flag(&mut self, _flag: u8) {}
+    fn load_slot(&mut self, _slot: u8) {}
+    fn store_register(&mut self, _register: u8) {}
+    fn store_predicate(&mut self, _predicate: u8) {}
+    fn store_flag(&mut self, _flag: u8) {}
+    fn open(&mut self) {}
+    fn end(&mut self) {}
+}
+
+/// Nothing is watched.
+impl Watch for () {}
+
+/// The same as [`shape_ok`] for who needs to know what the strips touch, so that the bytes are read once.
+#[inline(always)]
+pub(crate) fn shape_ok_watched(run: &[u8], watch: &mut impl Watch) -> bool {
     let mut rest = run;
     while !rest.is_empty() {
-        match skip_strip(rest) {
+        match skip_strip(rest, watch) {
             Some(behind) => rest = behind,
             None => return false,
         }
@@ -68,7 +91,7 @@ fn need(condition: bool) -> Option<()> {
 }
 
 /// What lies behind the first strip, or `None` if its shape is wrong.
-fn skip_strip(strip: &[u8]) -> Option<&[u8]> {
+fn skip_strip<'a>(strip: &'a [u8], watch: &mut impl Watch) -> Option<&'a [u8]> {
     let mut rest = strip;
     let mut v = Values::default();
     let mut open = false;
@@ -83,33 +106,40 @@ fn skip_strip(strip: &[u8]) -> Option<&[u8]> {
             4 => {
                 let [cell] = body(&mut rest)?;
                 need(cell <= 254)?;
+                watch.load_register(cell);
                 v.add_word();
             }
             5 => {
                 let [cell] = body(&mut rest)?;
                 need(cell <= 6)?;
+                watch.load_predicate(cell);
                 v.add_truth();
             }
             6 => {
                 let [cell] = body(&mut rest)?;
                 need(cell <= 3)?;
+                watch.load_flag(cell);
                 v.add_truth();
             }
             7 => {
                 let [cell, a, b] = body(&mut rest)?;
                 need(cell <= 254 && is(v.words, a, b))?;
+                watch.store_register(cell);
             }
             8 => {
                 let [cell, a, b] = body(&mut rest)?;
                 need(cell <= 6 && is(v.truths, a, b))?;
+                watch.store_predicate(cell);
             }
             9 => {
                 let [cell, a, b] = body(&mut rest)?;
                 need(cell <= 3 && is(v.truths, a, b))?;
+                watch.store_flag(cell);
             }
             10 => {
                 let [slot] = body(&mut rest)?;
                 need(slot <= 31)?;
+                watch.load_slot(slot);
                 v.slots |= v.next();
             }
             11 => {
@@ -166,6 +196,7 @@ fn skip_strip(strip: &[u8]) -> Option<&[u8]> {
                 let [a, b] = body(&mut rest)?;
                 need(!open && is(v.truths, a, b))?;
                 open = true;
+                watch.open();
             }
             // The close must stand directly before the end. So nothing opens again behind it.
             101 => {
@@ -176,7 +207,11 @@ fn skip_strip(strip: &[u8]) -> Option<&[u8]> {
                 let [note] = body(&mut rest)?;
                 need((1..=5).contains(&note))?;
             }
-            255 => return (!open).then_some(rest),
+            255 => {
+                need(!open)?;
+                watch.end();
+                return Some(rest);
+            }
             _ => return None,
         }
     }

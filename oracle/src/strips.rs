@@ -6,7 +6,7 @@ use crate::rng::Rng;
 use crate::starts::corner_word;
 
 /// Bytes at the limits of kinds, cells, slots and notes.
-const TELLING_BYTES: [u8; 48] = [
+pub const TELLING_BYTES: [u8; 48] = [
     0, 1, 2, 3, 4, 5, 6, 7, 8, 9, 10, 11, 12, 13, 19, 20, 27, 28, 31, 32, 39, 40, 52, 53, 59, 60, 61, 62, 63, 64, 69,
     70, 79, 80, 83, 84, 89, 90, 93, 94, 99, 100, 101, 102, 110, 120, 254, 255,
 ];

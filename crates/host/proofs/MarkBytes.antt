@@ -4,8 +4,8 @@ use mathlib.Core.List.{List, [], _∷_, _++_, append-assoc, append-nil}
 use Prim.Native.Nat.{ℕ, zero, suc, _+_, _*_, _≤_, _<_}
 use native.Mathlib.Omega.{arith}
 use native.Mathlib.Numerals.{towards-suc}
-use lib.ListN.{length, take, drop, getD, set, length-append}
-use lib.Seq.{take-all, take-suc, take-suc-set, take-at, sets, sets-eq, length-take-le}
+use lib.ListN.{length, take, drop, getD, set}
+use lib.Seq.{take-all, take-suc, take-suc-set, sets}
 use borrow.Author.Tests.{eq-eqb, ne-eqb}
 use Rattle.strip.specs.Entry.{wordAt, wordBytes, readOf, readAs, encode, kindOf, immediateOf, refsOf, short}
 use Rattle.strip.specs.declared.reader.Entry.the-variants as Of
@@ -16,6 +16,7 @@ use Rattle.translation.specs.declared.answer.Refusal.{Refusal}
 use Rattle.translation.specs.declared.answer.Translated.{Translated}
 use Rattle.translation.specs.Strip as T
 use Rattle.translation.specs.Whole.{answered}
+use Rattle.truth_bytes.proofs.Lists.{sets-upto}
 use Rattle.host.specs.Marks.{wordsIn, bytesOf, answer, answerOf, given, translateAnswer}
 
 -- ---- the marks, word by word
@@ -43,15 +44,9 @@ unfolding bytesOf
 bytes-snoc [] w = append-nil (wordBytes w)
 bytes-snoc (x ∷ ws) w = ap (λ (l : List ℕ). wordBytes x ++ l) (bytes-snoc ws w) ∙ sym (append-assoc (wordBytes x) (bytesOf ws) (wordBytes w))
 
-put : (l vs : List ℕ) (n m : ℕ) → n + length vs ≤ length l → n + length vs ≡ m → take m (sets l n vs) ≡ take n l ++ vs
-put l vs n m h e =
-    let t : length (take n l) ≡ n = length-take-le n l (omega arith) in
-    let k : length (take n l ++ vs) ≡ m = rw (length-append, t) e in
-    rw (sets-eq vs l n h) (take-at (take n l ++ vs) (drop (n + length vs) l) m k)
-
 pub bytes-next : (marks bytes : List ℕ) (i : ℕ) → i < length marks → i * 4 + 4 ≤ length bytes → take (i * 4) bytes ≡ bytesOf (take i marks)
     → take (suc i * 4) (sets bytes (i * 4) (wordBytes (getD marks i 0))) ≡ bytesOf (take (suc i) marks)
-bytes-next marks bytes i h k e = rw (put bytes (wordBytes (getD marks i 0)) (i * 4) (suc i * 4) k (omega arith), e, take-suc marks i 0 h, bytes-snoc)
+bytes-next marks bytes i h k e = rw (sets-upto bytes (wordBytes (getD marks i 0)) (i * 4) (suc i * 4) k (omega arith), e, take-suc marks i 0 h, bytes-snoc)
 
 pub bytes-all : (marks bytes : List ℕ) (i : ℕ) → length marks ≤ i → length bytes ≤ i * 4 → take (i * 4) bytes ≡ bytesOf (take i marks) → bytes ≡ bytesOf marks
 bytes-all marks bytes i h k e = sym (take-all (i * 4) bytes k) ∙ e ∙ ap bytesOf (take-all i marks h)

@@ -19,41 +19,12 @@ use Rattle.translation.specs.declared.answer.Outcome.{Outcome}
 use Rattle.translation.specs.declared.answer.Outcome.the-variants.{Written, Refused}
 use Rattle.translation.specs.declared.answer.Refusal.{Refusal}
 use Rattle.translation.specs.declared.answer.Refusal.the-variants.{BadLength, UnknownKind, UnknownForm, LaneMov, ByteThree, NoRoom}
-use Rattle.translation.specs.Strip.{Answer, strip, marked, insnOf, known, laneMov, byteThree, admits, refused, fitted, admitted, translation}
+use Rattle.translation.specs.Strip.{Answer, strip, marked, insnOf, known, laneMov, byteThree, admits, refused, fitted, admitted, translation, written}
 use Rattle.translation.proofs.Shape.{Accepted, accepted as accepted-is}
 use Rattle.meaning.specs.Run.{stripsOf}
-use Rattle.meaning.specs.Turn.{Room, Given, written, isWritten, answered, turn, inTurn, accepted}
+use Rattle.meaning.specs.Turn.{Room, Given, isWritten, answered, turn, inTurn, accepted}
+use Rattle.meaning.proofs.Demand1.{refused-untouched}
 use Rattle.meaning.proofs.Means.{strips-shaped}
-
--- ---- one record
-
--- a refused one leaves the room as it is
-refused-out : (l m out : List ℕ) (f : Refusal) → translation l m out .outcome ≡ Refused f → translation l m out .out ≡ out
-unfolding translation admitted fitted
-refused-out l m out f h =
-    go (eqb (length l) 18) (known k) (ltb 2 (insnOf l .form)) (laneMov k (insnOf l)) (byteThree k (insnOf l)) (leb (length s) (length out)) h
-  where
-    k : ℕ
-    k = getD l 0 0
-
-    s : List ℕ
-    s = strip (getD l 0 0) (insnOf l)
-
-    Case : Answer → Type 0
-    Case r = r .outcome ≡ Refused f → r .out ≡ out
-
-    full : Answer
-    full = record { outcome = Written (length s); marks = marked k (insnOf l) m; out = s ++ drop (length s) out }
-
-    go : (a b c d e g : Bool)
-        → Case (cond a (cond b (cond c (refused UnknownForm m out) (cond d (refused LaneMov m out) (cond e (refused ByteThree m out) (cond g full (refused NoRoom m out))))) (refused UnknownKind m out)) (refused BadLength m out))
-    go false b c d e g = λ x. refl
-    go true false c d e g = λ x. refl
-    go true true true d e g = λ x. refl
-    go true true false true e g = λ x. refl
-    go true true false false true g = λ x. refl
-    go true true false false false false = λ x. refl
-    go true true false false false true = λ x. absurd (true≢false (ap isWritten x))
 
 -- ---- in turn
 
@@ -66,10 +37,10 @@ pub record Filled (gs : List Given) (r : Room) : Type 0 where
 
 -- a refused record changes nothing
 turn-refused : (g : Given) (r : Room) (f : Refusal) → answered g r .outcome ≡ Refused f → turn g r ≡ r
-unfolding turn
+unfolding turn written
 turn-refused g r f e =
     let u : r .used + 0 ≡ r .used = omega arith in
-    rw (e, refused-out (g .bytes) (g .marks) (drop (r .used) (r .bytes)) f e, take-append-drop (r .used) (r .bytes), u) refl
+    rw (e, refused-untouched (g .bytes) (g .marks) (drop (r .used) (r .bytes)) f e .1, take-append-drop (r .used) (r .bytes), u) refl
 
 module _ (g : Given) (r : Room) (h : r .used ≤ length (r .bytes)) (n : ℕ) (e : answered g r .outcome ≡ Written n) where
   a : (admits (g .bytes) ≡ true) × Accepted (g .bytes) (g .marks) (drop (r .used) (r .bytes)) n (answered g r)
@@ -84,11 +55,11 @@ module _ (g : Given) (r : Room) (h : r .used ≤ length (r .bytes)) (n : ℕ) (e
   placed-length = rw (length-append (take (r .used) (r .bytes)) (strip (getD (g .bytes) 0 0) (insnOf (g .bytes))), length-take-le (r .used) (r .bytes) h, ← a .1 .size) refl
 
   turn-used : turn g r .used ≡ r .used + n
-  unfolding turn
+  unfolding turn written
   turn-used = rw e refl
 
   turn-bytes : turn g r .bytes ≡ placed ++ drop (r .used + n) (r .bytes)
-  unfolding turn placed
+  unfolding turn placed written
   turn-bytes =
       ap (λ (x : List ℕ). take (r .used) (r .bytes) ++ x) (a .1 .out ∙ ap (λ (x : List ℕ). strip (getD (g .bytes) 0 0) (insnOf (g .bytes)) ++ x) (drop-drop n (r .used) (r .bytes)))
       ∙ sym (append-assoc (take (r .used) (r .bytes)) (strip (getD (g .bytes) 0 0) (insnOf (g .bytes))) (drop (r .used + n) (r .bytes)))

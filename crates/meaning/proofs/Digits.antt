@@ -130,7 +130,7 @@ from-lt (suc n) f = go (f n) (from-lt n f)
     go true h = omega arith
     go false h = omega arith
 
-bit-from : (n : ℕ) (f : ℕ → Bool) (j : ℕ) → j < n → bitAt (fromBits n f) j ≡ f j
+pub bit-from : (n : ℕ) (f : ℕ → Bool) (j : ℕ) → j < n → bitAt (fromBits n f) j ≡ f j
 bit-from zero f j h = absurd (omega arith)
 bit-from (suc n) f j h =
     ap (λ (z : ℕ). bitAt z j) (from-step n f) ∙ bit-cat (cond (f n) 1 0) n (fromBits n f) j (from-lt n f) ∙ go (leb n j) refl (λ l. bit-from n f j l)

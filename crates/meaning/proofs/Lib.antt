@@ -21,4 +21,6 @@ pub mod Convert
 pub mod Bench
 pub mod EveryArm
 pub mod Means
+pub mod Demand1
 pub mod Demand3
+pub mod Works

@@ -1,6 +1,6 @@
 -- A state of words stays one: registers below 2 ^ 32, four flags, whatever code runs.
 use mathlib.Core.Path.{_≡_, refl}
-use mathlib.Core.Bool.{Bool, true, false, cond, false≢true}
+use mathlib.Core.Bool.{Bool, true, false, cond}
 use mathlib.Core.List.{List, [], _∷_, _++_}
 use Prim.Native.Nat.{ℕ, zero, suc, _^_, _<_}
 use native.Mathlib.Omega.{arith}
@@ -21,7 +21,7 @@ use Rattle.evaluation.proofs.Words.{Sized, word-sized, undefined-sized, unary-s
 use Rattle.evaluation.specs.declared.machine.Refusal.the-variants.{UndefinedValue}
 use Rattle.evaluation.proofs.Laws.{cond-all, with-word, with-truth, with-slot}
 use Rattle.translation.specs.Code.{Code, ret, op, act, call, mark, ite}
-use Rattle.translation.proofs.InRange.{fits, wordIn, either, inRange}
+use Rattle.translation.proofs.InRange.{fits, wordIn, inRange, taken, left-out}
 use Rattle.meaning.proofs.Sem.{Ran, ran, halted, mid, pushing, acting, followed, valuesAt, sem}
 use Rattle.meaning.proofs.Helper.{Proper}
 
@@ -156,17 +156,6 @@ module _ (cs : List ℕ) (s : State) (w : Proper cs s) where
   flag-proper n t = record { regs = w .regs; constants = w .constants; flags = rw (length-set (s .flags) n t) (w .flags) }
 
 -- ---- code
-
-taken : (x y : Bool) → either true x y ≡ true → x ≡ true
-unfolding either
-taken true y h = refl
-taken false y h = absurd (false≢true h)
-
-left-out : (x y : Bool) → either false x y ≡ true → y ≡ true
-unfolding either
-left-out true true h = refl
-left-out true false h = absurd (false≢true h)
-left-out false y h = h
 
 abbrev pub Stays : List ℕ → Ran → Type 0
 Stays cs (ran t v) = Proper cs t × Sized v

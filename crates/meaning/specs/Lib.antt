@@ -4,3 +4,4 @@ pub mod Meaning
 pub mod Run
 pub mod Bench
 pub mod Turn
+pub mod Works

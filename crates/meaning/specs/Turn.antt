@@ -5,7 +5,7 @@ use Prim.Native.Nat.{ℕ, _+_}
 use lib.ListN.{take, drop}
 use Rattle.translation.specs.declared.answer.Outcome.{Outcome}
 use Rattle.translation.specs.declared.answer.Outcome.the-variants.{Written, Refused}
-use Rattle.translation.specs.Strip.{Answer, translation}
+use Rattle.translation.specs.Strip.{Answer, translation, written}
 
 -- a room, and how many of its bytes accepted strips fill
 pub record Room : Type 0 where
@@ -16,10 +16,6 @@ pub record Room : Type 0 where
 pub record Given : Type 0 where
   pub bytes : List ℕ
   pub marks : List ℕ
-
-abbrev pub written : Outcome → ℕ
-written (Written n) = n
-written (Refused f) = 0
 
 abbrev pub isWritten : Outcome → Bool
 isWritten (Written n) = true

@@ -2,6 +2,8 @@ pub mod Listed
 pub mod Isolation
 pub mod Truths
 pub mod Bits
+pub mod Lists
+pub mod Scan
 pub mod Column
 pub mod Pass
 pub mod Shown

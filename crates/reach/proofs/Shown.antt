@@ -2,9 +2,10 @@
 use mathlib.Core.Path.{_≡_, refl, ap, _∙_, sym}
 use mathlib.Core.List.{List, []}
 use mathlib.Core.Option.{Option·getD}
-use mathlib.Core.Bool.{Bool, true, false, _&&_, _||_}
+use mathlib.Core.Bool.{Bool, true, false, cond, not, _&&_, _||_}
 use Prim.Native.Nat.{ℕ, _+_, _-_, _≤_, _<_}
 use native.Mathlib.Omega.{arith}
+use lib.Dec.{eqb}
 use lib.ListN.{length, getD}
 use borrow.Author.Tests.{lt-ltb, le-ltb}
 use Rattle.strip.specs.Shape.{decode, shapeOk}
@@ -12,9 +13,10 @@ use Rattle.reach.specs.declared.cells.Cells.{Cells}
 use Rattle.reach.specs.declared.cells.Outcome.the-variants.{Done, BadShape}
 use Rattle.reach.specs.declared.cells.Reached.{Reached}
 use Rattle.reach.specs.Reach.{listed, table, reachOf, reached}
-use Rattle.reach.specs.Rows.{Sized, Whole, Holds, listedNo, bit, any, found, gathered, cellsIn, collected, shown}
-use Rattle.reach.proofs.Truths.{any-add, any-cong, table-is}
-use Rattle.reach.proofs.Bits.{gathered-sized, gathered-row, gathered-union}
+use Rattle.reach.specs.Rows.{Sized, Whole, Holds, listedNo, bit, joinRow, lists, any, found, gathered, cellsIn, collected, shownAt, shown}
+use Rattle.reach.proofs.Truths.{any-add, any-cong, any-or, any-one, table-is}
+use Rattle.reach.proofs.Bits.{join-bit}
+use Rattle.reach.proofs.Scan.{gathered-sized, gathered-row, gathered-union, ownRow}
 use Rattle.reach.proofs.Column.{reach-whole}
 
 -- ---- the four arrays, by number
@@ -44,60 +46,110 @@ five : (u a b c d : Bool) → (((u || a) || b) || c) || d ≡ u || (((a || b) ||
 five true a b c d = refl
 five false a b c d = refl
 
+-- an asked cell has a row that holds d
+abbrev rowed : List ℕ → Cells → ℕ → ℕ → Bool
+rowed t c d x = listedNo c x && ownRow t d x
+
 module _ (t : List ℕ) (c : Cells) (sized : Sized t) (d : ℕ) (l : d < 298) where
-  -- a table with the same rows of cells
+  -- a table with the same rows but what row 298 collects
   record Same (t′ : List ℕ) (u : Bool) : Type 0 where
     size : Sized t′
-    rows : (x : ℕ) → x < 298 → bit t′ x d ≡ bit t x d
+    rows : (x y : ℕ) → (x ≡ 298 → ⊥) → y < 298 → bit t′ x y ≡ bit t x y
     union : bit t′ 298 d ≡ u
 
   more : (t′ : List ℕ) (u : Bool) → Same t′ u → (cs : List Bool) (first n : ℕ) → first + n ≤ 298 → ((i : ℕ) → i < n → listedNo c (first + i) ≡ getD cs i false)
-      → Same (gathered t′ cs first n) (u || any n (λ i. listedNo c (first + i) && bit t (first + i) d))
+      → Same (gathered t′ cs first n) (u || any n (λ i. rowed t c d (first + i)))
   more t′ u s cs first n h at = record {
     size = gathered-sized t′ cs first n (s .size);
-    rows = λ x k. gathered-row t′ cs first (s .size) d l n x k ∙ s .rows x k;
+    rows = λ x y k m. gathered-row t′ cs first (s .size) y m n x k ∙ s .rows x y k m;
     union =
         gathered-union t′ cs first (s .size) d l n h
-        ∙ ap (λ (b : Bool). b || any n (λ i. getD cs i false && bit t′ (first + i) d)) (s .union)
-        ∙ ap (λ (b : Bool). u || b) (any-cong n _ _ (λ i k. let m : first + i < 298 = omega arith in rw (at i k, s .rows (first + i) m)));
+        ∙ ap (λ (b : Bool). b || any n (λ i. getD cs i false && ownRow t′ d (first + i))) (s .union)
+        ∙ ap (λ (b : Bool). u || b) (any-cong n _ _ (λ i k. let m : first + i < 298 = omega arith in rw (at i k, s .rows (first + i) d (λ e. omega arith) l, s .rows 299 (first + i) (λ e. omega arith) m)));
   }
 
-  pub collected-sized : Sized (collected t c)
-  unfolding collected
-  collected-sized = gathered-sized _ _ 266 32 (gathered-sized _ _ 262 4 (gathered-sized _ _ 255 7 (gathered-sized t (c .regs) 0 255 sized)))
-
-  pub collected-bit : bit (collected t c) 298 d ≡ found t c d
-  unfolding collected found
-  collected-bit =
-      let f : ℕ → Bool = λ x. listedNo c x && bit t x d in
+  gathered-all : Same (gathered (gathered (gathered (gathered t (c .regs) 0 255) (c .preds) 255 7) (c .flags) 262 4) (c .slots) 266 32) (bit t 298 d || any 298 (rowed t c d))
+  gathered-all =
+      let f : ℕ → Bool = rowed t c d in
       let first : any 255 f ≡ any 255 (λ i. f (0 + i)) = any-cong 255 _ _ (λ i h. let e : 0 + i ≡ i = omega arith in ap f (sym e)) in
-      let s = more _ _ (more _ _ (more _ _ (more t (bit t 298 d) (record { size = sized; rows = λ x k. refl; union = refl })
+      let s = more _ _ (more _ _ (more _ _ (more t (bit t 298 d) (record { size = sized; rows = λ x y k m. refl; union = refl })
       (c .regs) 0 255 (omega arith) (register-at c)) (c .preds) 255 7 (omega arith) (predicate-at c)) (c .flags) 262 4 (omega arith) (flag-at c)) (c .slots) 266 32 (omega arith) (slot-at c)
       in
-      s .union
-      ∙ five (bit t 298 d) (any 255 (λ i. f (0 + i))) (any 7 (λ i. f (255 + i))) (any 4 (λ i. f (262 + i))) (any 32 (λ i. f (266 + i)))
-      ∙ ap (λ (b : Bool). bit t 298 d || b)
-      (sym (any-add 266 32 f ∙ ap (λ (b : Bool). b || any 32 (λ i. f (266 + i))) (any-add 262 4 f ∙ ap (λ (b : Bool). b || any 4 (λ i. f (262 + i))) (any-add 255 7 f ∙ ap (λ (b : Bool). b || any 7 (λ i. f (255 + i))) first))))
+      record {
+        size = s .size;
+        rows = s .rows;
+        union =
+            s .union
+            ∙ five (bit t 298 d) (any 255 (λ i. f (0 + i))) (any 7 (λ i. f (255 + i))) (any 4 (λ i. f (262 + i))) (any 32 (λ i. f (266 + i)))
+            ∙ ap (λ (b : Bool). bit t 298 d || b)
+            (sym (any-add 266 32 f ∙ ap (λ (b : Bool). b || any 32 (λ i. f (266 + i))) (any-add 262 4 f ∙ ap (λ (b : Bool). b || any 4 (λ i. f (262 + i))) (any-add 255 7 f ∙ ap (λ (b : Bool). b || any 7 (λ i. f (255 + i))) first))));
+      }
 
--- ---- row 298 as cells
-module _ (t : List ℕ) (c : Cells) (w : Whole c) (is : (d : ℕ) → d < 298 → bit t 298 d ≡ listedNo c d) where
-  pub shown-is : shown t ≡ c
+  collected-union : bit (collected t c) 298 d ≡ bit t 298 d || any 298 (rowed t c d)
+  unfolding collected
+  collected-union = join-bit _ 299 298 (gathered-all .size) (omega arith) 298 d l ∙ gathered-all .union
+
+  collected-marks : bit (collected t c) 299 d ≡ bit t 299 d || (bit t 298 d || any 298 (rowed t c d))
+  unfolding collected
+  collected-marks = join-bit _ 299 298 (gathered-all .size) (omega arith) 299 d l ∙ rw (gathered-all .union, gathered-all .rows 299 d (λ e. omega arith) l)
+
+  -- what an asked cell lists: its row, or itself where it has none
+  split : (a o r e : Bool) → a && cond o r e ≡ (a && (o && r)) || (e && (a && not o))
+  split true true true true = refl
+  split true true true false = refl
+  split true true false true = refl
+  split true true false false = refl
+  split true false r true = refl
+  split true false r false = refl
+  split false o r true = refl
+  split false o r false = refl
+
+  parted : any 298 (λ x. listedNo c x && lists t x d) ≡ any 298 (rowed t c d) || (listedNo c d && not (bit t 299 d))
+  unfolding lists
+  parted =
+      any-cong 298 _ _ (λ x h. split (listedNo c x) (bit t 299 x) (bit t x d) (eqb x d))
+      ∙ any-or 298 (rowed t c d) (λ x. eqb x d && (listedNo c x && not (bit t 299 x)))
+      ∙ ap (λ (b : Bool). any 298 (rowed t c d) || b) (any-one 298 d (λ x. listedNo c x && not (bit t 299 x)) l)
+
+  joined : (u a m k : Bool) → cond (m || (u || a)) (u || a) k ≡ u || (a || (k && not m))
+  joined true a true k = refl
+  joined true a false k = refl
+  joined false true true k = refl
+  joined false true false k = refl
+  joined false false true true = refl
+  joined false false true false = refl
+  joined false false false true = refl
+  joined false false false false = refl
+
+  pub answer-bit : cond (bit (collected t c) 299 d) (bit (collected t c) 298 d) (listedNo c d) ≡ found t c d
+  unfolding found
+  answer-bit = rw (collected-union, collected-marks, parted) (joined (bit t 298 d) (any 298 (rowed t c d)) (bit t 299 d) (listedNo c d))
+
+-- ---- the arrays of the answer
+module _ (t : List ℕ) (c r : Cells) (w : Whole r) (is : (d : ℕ) → d < 298 → cond (bit t 299 d) (bit t 298 d) (listedNo c d) ≡ listedNo r d) where
+  part : (cs rs : List Bool) (first n : ℕ) → first + n ≤ 298 → length rs ≡ n → ((i : ℕ) → i < n → listedNo c (first + i) ≡ getD cs i false) → ((i : ℕ) → i < n → listedNo r (first + i) ≡ getD rs i false)
+      → table n (shownAt t first cs) ≡ rs
+  unfolding shownAt
+  part cs rs first n h e p q =
+      table-is rs n _ e (λ i k. ap (cond (bit t 299 (first + i)) (bit t 298 (first + i))) (sym (p i k)) ∙ is (first + i) (omega arith) ∙ q i k)
+
+  pub shown-is : shown t c ≡ r
   unfolding shown
   shown-is = rw (
-    table-is (c .regs) 255 (λ i. bit t 298 (0 + i)) (w .regs) (λ i h. is (0 + i) (omega arith) ∙ register-at c i h),
-    table-is (c .preds) 7 (λ i. bit t 298 (255 + i)) (w .preds) (λ i h. is (255 + i) (omega arith) ∙ predicate-at c i h),
-    table-is (c .flags) 4 (λ i. bit t 298 (262 + i)) (w .flags) (λ i h. is (262 + i) (omega arith) ∙ flag-at c i h),
-    table-is (c .slots) 32 (λ i. bit t 298 (266 + i)) (w .slots) (λ i h. is (266 + i) (omega arith) ∙ slot-at c i h),
+    part (c .regs) (r .regs) 0 255 (omega arith) (w .regs) (register-at c) (register-at r),
+    part (c .preds) (r .preds) 255 7 (omega arith) (w .preds) (predicate-at c) (predicate-at r),
+    part (c .flags) (r .flags) 262 4 (omega arith) (w .flags) (flag-at c) (flag-at r),
+    part (c .slots) (r .slots) 266 32 (omega arith) (w .slots) (slot-at c) (slot-at r),
   )
 
 -- ---- the code's steps
-pub collected-by : (t : List ℕ) {t₁ t₂ t₃ t₄ : List ℕ} (c : Cells) → Whole c → t₁ ≡ gathered t (c .regs) 0 (length (c .regs)) → t₂ ≡ gathered t₁ (c .preds) 255 (length (c .preds))
-    → t₃ ≡ gathered t₂ (c .flags) 262 (length (c .flags)) → t₄ ≡ gathered t₃ (c .slots) 266 (length (c .slots)) → t₄ ≡ collected t c
+pub collected-by : (t : List ℕ) {t₁ t₂ t₃ t₄ t₅ : List ℕ} (c : Cells) → Whole c → t₁ ≡ gathered t (c .regs) 0 (length (c .regs)) → t₂ ≡ gathered t₁ (c .preds) 255 (length (c .preds))
+    → t₃ ≡ gathered t₂ (c .flags) 262 (length (c .flags)) → t₄ ≡ gathered t₃ (c .slots) 266 (length (c .slots)) → t₅ ≡ joinRow t₄ 299 298 → t₅ ≡ collected t c
 unfolding collected
-collected-by t c w p₁ p₂ p₃ p₄ = rw (p₄, p₃, p₂, p₁, w .regs, w .preds, w .flags, w .slots)
+collected-by t c w p₁ p₂ p₃ p₄ p₅ = rw (p₅, p₄, p₃, p₂, p₁, w .regs, w .preds, w .flags, w .slots)
 
-pub shown-by : (t : List ℕ) (c : Cells) → Whole c → {rs ps fs ss : List Bool} → rs ≡ table (length (c .regs)) (λ i. bit t 298 (0 + i)) → ps ≡ table (length (c .preds)) (λ i. bit t 298 (255 + i))
-    → fs ≡ table (length (c .flags)) (λ i. bit t 298 (262 + i)) → ss ≡ table (length (c .slots)) (λ i. bit t 298 (266 + i)) → cellsIn rs ps fs ss ≡ shown t
+pub shown-by : (t : List ℕ) (c : Cells) → Whole c → {rs ps fs ss : List Bool} → rs ≡ table (length (c .regs)) (shownAt t 0 (c .regs)) → ps ≡ table (length (c .preds)) (shownAt t 255 (c .preds))
+    → fs ≡ table (length (c .flags)) (shownAt t 262 (c .flags)) → ss ≡ table (length (c .slots)) (shownAt t 266 (c .slots)) → cellsIn rs ps fs ss ≡ shown t c
 unfolding shown
 shown-by t c w p₁ p₂ p₃ p₄ = rw (p₁, p₂, p₃, p₄, w .regs, w .preds, w .flags, w .slots)
 
@@ -107,9 +159,9 @@ module _ (run : List ℕ) (c : Cells) where
   unfolding reached
   refused p = rw p
 
-  pub answered : Whole c → shapeOk run ≡ true → (t : List ℕ) → Holds t run → record { cells = shown (collected t c); outcome = Done } ≡ reached run c
+  pub answered : Whole c → shapeOk run ≡ true → (t : List ℕ) → Holds t run → record { cells = shown (collected t c) c; outcome = Done } ≡ reached run c
   unfolding reached
   answered w p t h =
       let ss = Option·getD (decode run) [] in
       rw p
-      (ap {B = Reached} (λ (z : Cells). record { cells = z; outcome = Done }) (shown-is (collected t c) (reachOf ss c) (reach-whole ss c w) (λ d l. collected-bit t c (h .sized) d l ∙ h .reach c w d l)))
+      (ap {B = Reached} (λ (z : Cells). record { cells = z; outcome = Done }) (shown-is (collected t c) c (reachOf ss c) (reach-whole ss c w) (λ d l. answer-bit t c (h .sized) d l ∙ h .reach c w d l)))

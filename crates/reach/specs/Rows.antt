@@ -1,16 +1,17 @@
--- The table by which the code finds a reach in one pass forwards: row c holds the cells that the strips so far list where c alone is asked, and
--- row 298 collects. That this is `reachOf` is proved (proofs/Column.antt), so a reader need not believe this page.
+-- The table by which the code finds a reach in one pass forwards: row c holds the cells that the strips so far list where c alone is asked, row
+-- 298 collects, and row 299 says which cells have a row: any other lists itself. That this is `reachOf` is proved (proofs/Column.antt), so a
+-- reader need not believe this page.
 use Prim.Native.Nat.{ℕ, zero, suc, _+_, _*_, _-_, _/_, _%_, _^_, _<_}
 use mathlib.Core.Path.{_≡_}
 use mathlib.Core.List.{List, []}
 use mathlib.Core.Option.{Option·getD}
-use mathlib.Core.Bool.{Bool, false, cond, _&&_, _||_}
+use mathlib.Core.Bool.{Bool, true, false, cond, _&&_, _||_}
 use lib.Dec.{ltb, eqb}
 use lib.Bits.{bitOr}
 use lib.ListN.{length, getD, set}
 use Rattle.strip.specs.declared.reader.Entry.{Entry}
 use Rattle.strip.specs.declared.reader.Entry.the-variants as Of
-use Rattle.strip.specs.Shape.{decode}
+use Rattle.strip.specs.Shape.{decode, shapeOk}
 use Rattle.reach.specs.declared.cells.Cells.{Cells}
 use Rattle.reach.specs.declared.walk.Seen.{Seen}
 use Rattle.reach.specs.Reach.{listed, table, reachOf}
@@ -42,7 +43,7 @@ storePlace j n = cond (eqb j 7) (placed n 255 0) (cond (eqb j 8) (placed n 7 255
 -- ---- rows of five words
 
 abbrev pub Sized : List ℕ → Type 0
-Sized t = length t ≡ 1495
+Sized t = length t ≡ 1500
 
 -- cell d is in row r
 unfoldable pub bit : List ℕ → ℕ → ℕ → Bool
@@ -65,16 +66,27 @@ copyRow t r s = setRow t r (getD t (s * 5) 0) (getD t (s * 5 + 1) 0) (getD t (s 
 unfoldable pub wipeRow : List ℕ → ℕ → List ℕ
 wipeRow t r = setRow t r 0 0 0 0 0
 
--- each cell has itself, row 298 nothing
-pub record Begun (t : List ℕ) : Type 0 where
-  pub sized : Sized t
-  pub own : (x d : ℕ) → x < 299 → d < 298 → bit t x d ≡ ltb x 298 && eqb x d
+-- cell d comes into row r
+unfoldable pub addCell : List ℕ → ℕ → ℕ → List ℕ
+addCell t r d = set t (r * 5 + d / 64) (bitOr (getD t (r * 5 + d / 64) 0) (2 ^ (d % 64)))
+
+-- where x alone is asked, d is listed
+unfoldable pub lists : List ℕ → ℕ → ℕ → Bool
+lists t x d = cond (bit t 299 x) (bit t x d) (eqb x d)
+
+-- cell c has a row
+unfoldable pub owned : List ℕ → ℕ → List ℕ
+owned t c = cond (bit t 299 c) t (addCell (addCell (wipeRow t c) c c) 299 c)
 
 -- ---- an entry
 
+-- what a loaded cell lists is collected
+unfoldable pub loaded : List ℕ → ℕ → List ℕ
+loaded t c = cond (ltb c 298) (cond (bit t 299 c) (joinRow t 298 c) (addCell t 298 c)) t
+
 -- a stored cell gets what was collected, beside what it had where the strip holds an open
 unfoldable pub stored : Bool → List ℕ → ℕ → List ℕ
-stored o t r = cond o (joinRow t r 298) (copyRow t r 298)
+stored o t c = cond (ltb c 298) (cond o (joinRow (owned t c) c 298) (copyRow (owned t c) c 298)) t
 
 -- the first m of the stored cells
 unfoldable pub settled : Bool → List ℕ → List ℕ → ℕ → List ℕ
@@ -87,7 +99,7 @@ none = record { count = 0; block = false }
 unfoldable pub rowsAfter : List ℕ → List ℕ → Seen → Entry → List ℕ
 rowsAfter t cs s (Of.Bare k) = cond (eqb k 255) (wipeRow (settled (s .block) t cs (s .count)) 298) t
 rowsAfter t cs s (Of.Word w) = t
-rowsAfter t cs s (Of.Cell k n) = joinRow t 298 (loadPlace k n)
+rowsAfter t cs s (Of.Cell k n) = loaded t (loadPlace k n)
 rowsAfter t cs s (Of.Store k n r) = t
 rowsAfter t cs s (Of.One k a) = t
 rowsAfter t cs s (Of.Two k a b) = t
@@ -114,11 +126,10 @@ seenAfter s (Of.Two k a b) = s
 seenAfter s (Of.Three k a b c) = s
 seenAfter s (Of.Four k a b c d) = s
 
--- the arrays have their lengths, and the stored cells are cells
+-- the arrays have their lengths
 pub record Kept (t cs : List ℕ) : Type 0 where
   pub sized : Sized t
   pub room : length cs ≡ 64
-  pub cells : (i : ℕ) → getD cs i 0 < 299
 
 -- what an entry makes of the arrays and of what was seen
 pub record Steps (t cs : List ℕ) (s : Seen) (e : Entry) (t′ cs′ : List ℕ) (s′ : Seen) : Type 0 where
@@ -133,9 +144,9 @@ unfoldable pub any : ℕ → (ℕ → Bool) → Bool
 any zero f = false
 any (suc n) f = any n f || f n
 
--- what the table says of cell d: it is collected, or in the row of an asked cell
+-- what the table says of cell d: it is collected, or an asked cell lists it
 unfoldable pub found : List ℕ → Cells → ℕ → Bool
-found t c d = bit t 298 d || any 298 (λ x. listedNo c x && bit t x d)
+found t c d = bit t 298 d || any 298 (λ x. listedNo c x && lists t x d)
 
 -- the arrays of a list of cells have their lengths
 pub record Whole (c : Cells) : Type 0 where
@@ -149,22 +160,31 @@ pub record Holds (t run : List ℕ) : Type 0 where
   pub sized : Sized t
   pub reach : (c : Cells) → Whole c → (d : ℕ) → d < 298 → found t c d ≡ listedNo (reachOf (Option·getD (decode run) []) c) d
 
+-- what a pass leaves: whether the run is in order, and its reach where it is
+pub record Passed (t run : List ℕ) (ok : Bool) : Type 0 where
+  pub shape : ok ≡ shapeOk run
+  pub holds : ok ≡ true → Holds t run
+
+-- ---- the answer
+
 -- the rows of the first n cells of a list, from row first on, collected
 unfoldable pub gathered : List ℕ → List Bool → ℕ → ℕ → List ℕ
 gathered t cs first zero = t
-gathered t cs first (suc n) = cond (getD cs n false) (joinRow (gathered t cs first n) 298 (first + n)) (gathered t cs first n)
-
--- ---- the answer
+gathered t cs first (suc n) =
+    cond (getD cs n false && bit (gathered t cs first n) 299 (first + n)) (joinRow (gathered t cs first n) 298 (first + n)) (gathered t cs first n)
 
 abbrev pub cellsIn : List Bool → List Bool → List Bool → List Bool → Cells
 cellsIn rs ps fs ss = record { regs = rs; preds = ps; flags = fs; slots = ss }
 
--- the rows of the asked cells, collected
+-- the rows of the asked cells, collected; row 299 has these cells too
 unfoldable pub collected : List ℕ → Cells → List ℕ
-collected t c = gathered (gathered (gathered (gathered t (c .regs) 0 255) (c .preds) 255 7) (c .flags) 262 4) (c .slots) 266 32
+collected t c = joinRow (gathered (gathered (gathered (gathered t (c .regs) 0 255) (c .preds) 255 7) (c .flags) 262 4) (c .slots) 266 32) 299 298
 
--- the cells that row 298 holds
-unfoldable pub shown : List ℕ → Cells
-shown t =
-    cellsIn (table 255 (λ i. bit t 298 (0 + i))) (table 7 (λ i. bit t 298 (255 + i))) (table 4 (λ i. bit t 298 (262 + i)))
-    (table 32 (λ i. bit t 298 (266 + i)))
+-- cell i of those from first on: collected where row 299 has it, else as it was asked
+unfoldable pub shownAt : List ℕ → ℕ → List Bool → ℕ → Bool
+shownAt t first cs i = cond (bit t 299 (first + i)) (bit t 298 (first + i)) (getD cs i false)
+
+unfoldable pub shown : List ℕ → Cells → Cells
+shown t c =
+    cellsIn (table 255 (shownAt t 0 (c .regs))) (table 7 (shownAt t 255 (c .preds))) (table 4 (shownAt t 262 (c .flags)))
+    (table 32 (shownAt t 266 (c .slots)))

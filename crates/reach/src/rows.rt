@@ -1,14 +1,15 @@
-// A table of 299 rows of cells, each five words: a row for each cell by its number, and row 298, which collects.
+// A table of 300 rows of cells, each five words: a row for each cell by its number; row 298, which collects; and row 299, which says which cells
+// have a row. A cell that no strip has stored has none, and lists itself: so the table begins as zeros.
 ghost use mathlib.Core.Path.{_≡_};
-ghost use mathlib.Core.Bool.{cond};
-ghost use Prim.Native.Nat.{ℕ, _+_, _≤_, _<_};
-ghost use lib.ListN.{length, getD};
+ghost use mathlib.Core.Bool.{false, cond, _&&_};
+ghost use Prim.Native.Nat.{ℕ, _+_, _/_, _%_, _^_, _≤_, _<_};
+ghost use lib.ListN.{length};
 ghost use Rattle.reach.specs.Reach.{table};
-ghost use Rattle.reach.specs.Rows.{Sized, Begun, bit, setRow, joinRow, copyRow, wipeRow, stored, settled, gathered};
+ghost use Rattle.reach.specs.Rows.{Sized, bit, setRow, joinRow, copyRow, wipeRow, addCell, owned, loaded, stored, settled, gathered, shownAt};
 
 // Cell d is in the row.
 fn has(rows: &[u64], row: usize, d: usize) -> bool
-    requires { ⌜ Sized (now rows) × ((row < 299) × (d < 298)) ⌝ }
+    requires { ⌜ Sized (now rows) × ((row < 300) × (d < 298)) ⌝ }
     ensures { λ r. ⌜ r ≡ bit (now (rows .entry)) row d ⌝ }
 {
     (rows[row * 5 + d / 64] >> (d % 64)) % 2 == 1
@@ -16,7 +17,7 @@ fn has(rows: &[u64], row: usize, d: usize) -> bool
 
 // A row replaced.
 fn put(rows: &mut [u64], to: usize, a: u64, b: u64, c: u64, d: u64, e: u64)
-    requires { ⌜ Sized (now rows) × (to < 299) ⌝ }
+    requires { ⌜ Sized (now rows) × (to < 300) ⌝ }
     ensures { λ _. ⌜ now (rows .exit) ≡ setRow (now (rows .entry)) to a b c d e ⌝ }
 {
     let t = to * 5;
@@ -29,7 +30,7 @@ fn put(rows: &mut [u64], to: usize, a: u64, b: u64, c: u64, d: u64, e: u64)
 
 // A row with what another holds.
 pub fn join(rows: &mut [u64], to: usize, from: usize)
-    requires { ⌜ Sized (now rows) × ((to < 299) × (from < 299)) ⌝ }
+    requires { ⌜ Sized (now rows) × ((to < 300) × (from < 300)) ⌝ }
     ensures { λ _. ⌜ now (rows .exit) ≡ joinRow (now (rows .entry)) to from ⌝ }
 {
     let t = to * 5;
@@ -43,7 +44,7 @@ pub fn join(rows: &mut [u64], to: usize, from: usize)
 }
 
 fn copy(rows: &mut [u64], to: usize, from: usize)
-    requires { ⌜ Sized (now rows) × ((to < 299) × (from < 299)) ⌝ }
+    requires { ⌜ Sized (now rows) × ((to < 300) × (from < 300)) ⌝ }
     ensures { λ _. ⌜ now (rows .exit) ≡ copyRow (now (rows .entry)) to from ⌝ }
 {
     let f = from * 5;
@@ -56,29 +57,58 @@ fn copy(rows: &mut [u64], to: usize, from: usize)
 }
 
 pub fn wipe(rows: &mut [u64], to: usize)
-    requires { ⌜ Sized (now rows) × (to < 299) ⌝ }
+    requires { ⌜ Sized (now rows) × (to < 300) ⌝ }
     ensures { λ _. ⌜ now (rows .exit) ≡ wipeRow (now (rows .entry)) to ⌝ }
 {
     put(rows, to, 0, 0, 0, 0, 0);
 }
 
-// Before the first strip: each cell has itself.
-pub fn begin(rows: &mut [u64])
-    requires { ⌜ Sized (now rows) × ((i : ℕ) → getD (now rows) i 0 ≡ 0) ⌝ }
-    ensures { λ _. ⌜ Begun (now (rows .exit)) ⌝ }
+// Cell d comes into a row.
+fn add(rows: &mut [u64], to: usize, d: usize)
+    requires { ⌜ Sized (now rows) × ((to < 300) × (d < 298)) ⌝ }
+    ensures { λ _. ⌜ now (rows .exit) ≡ addCell (now (rows .entry)) to d ⌝ }
 {
-    let mut c = 0;
-    while c < 298 {
-        rows[c * 5 + c / 64] = 1u64 << (c % 64);
-        c += 1;
+    let i = to * 5 + d / 64;
+    rows[i] = rows[i] | 1u64 << (d % 64);
+}
+
+// A row for a cell that has none.
+fn own(rows: &mut [u64], c: usize)
+    requires { ⌜ Sized (now rows) × (c < 298) ⌝ }
+    ensures { λ _. ⌜ now (rows .exit) ≡ owned (now (rows .entry)) c ⌝ }
+{
+    if has(rows, 299, c) {
+        return;
+    }
+    wipe(rows, c);
+    add(rows, c, c);
+    add(rows, 299, c);
+}
+
+// What a loaded cell lists is collected. Number 298 is no cell.
+pub fn load(rows: &mut [u64], c: usize)
+    requires { ⌜ Sized (now rows) ⌝ }
+    ensures { λ _. ⌜ now (rows .exit) ≡ loaded (now (rows .entry)) c ⌝ }
+{
+    if 298 <= c {
+        return;
+    }
+    if has(rows, 299, c) {
+        join(rows, 298, c);
+    } else {
+        add(rows, 298, c);
     }
 }
 
-// The row of a cell that a strip stores.
+// The row of a cell that a strip stores. Number 298 is no cell.
 fn store(rows: &mut [u64], c: usize, block: bool)
-    requires { ⌜ Sized (now rows) × (c < 299) ⌝ }
+    requires { ⌜ Sized (now rows) ⌝ }
     ensures { λ _. ⌜ now (rows .exit) ≡ stored block (now (rows .entry)) c ⌝ }
 {
+    if 298 <= c {
+        return;
+    }
+    own(rows, c);
     if block {
         join(rows, c, 298);
     } else {
@@ -88,7 +118,7 @@ fn store(rows: &mut [u64], c: usize, block: bool)
 
 // The rows of the first n of the cells that a strip stores.
 pub fn settle(rows: &mut [u64], cells: &[usize], n: usize, block: bool)
-    requires { ⌜ Sized (now rows) × ((n ≤ length (now cells)) × ((i : ℕ) → getD (now cells) i 0 < 299)) ⌝ }
+    requires { ⌜ Sized (now rows) × (n ≤ length (now cells)) ⌝ }
     ensures { λ _. ⌜ now (rows .exit) ≡ settled block (now (rows .entry)) (now (cells .entry)) n ⌝ }
 {
     let mut i = 0;
@@ -98,12 +128,31 @@ pub fn settle(rows: &mut [u64], cells: &[usize], n: usize, block: bool)
     }
 }
 
+// How many of the lowest bits are zero, at most so many.
+fn low_zeros(w: u64, most: usize) -> usize
+    ensures { λ r. ⌜ (r ≤ most) × ((j : ℕ) → j < r → w / 2 ^ j % 2 ≡ 0) ⌝ }
+{
+    let z = u64::trailing_zeros(w) as usize;
+    if z < most { z } else { most }
+}
+
+// From d up to this number row 299 has no cell.
+fn next(rows: &[u64], d: usize) -> usize
+    requires { ⌜ Sized (now rows) × (d ≤ 298) ⌝ }
+    ensures { λ r. ⌜ (d ≤ r) × ((j : ℕ) → d ≤ j → j < r → bit (now (rows .entry)) 299 j ≡ false) ⌝ }
+{
+    let k = d % 64;
+    d + low_zeros(rows[1495 + d / 64] >> k, 64 - k)
+}
+
 fn collect(rows: &mut [u64], listed: bool, c: usize)
-    requires { ⌜ Sized (now rows) × (c < 299) ⌝ }
-    ensures { λ _. ⌜ now (rows .exit) ≡ cond listed (joinRow (now (rows .entry)) 298 c) (now (rows .entry)) ⌝ }
+    requires { ⌜ Sized (now rows) × (c < 298) ⌝ }
+    ensures { λ _. ⌜ now (rows .exit) ≡ cond (listed && bit (now (rows .entry)) 299 c) (joinRow (now (rows .entry)) 298 c) (now (rows .entry)) ⌝ }
 {
     if listed {
-        join(rows, 298, c);
+        if has(rows, 299, c) {
+            join(rows, 298, c);
+        }
     }
 }
 
@@ -112,21 +161,32 @@ pub fn gather(rows: &mut [u64], cells: &[bool], first: usize)
     requires { ⌜ Sized (now rows) × (first + length (now cells) ≤ 298) ⌝ }
     ensures { λ _. ⌜ now (rows .exit) ≡ gathered (now (rows .entry)) (now (cells .entry)) first (length (now (cells .entry))) ⌝ }
 {
-    let mut i = 0;
+    let mut i = next(rows, first) - first;
     while i < cells.len() {
         collect(rows, cells[i], first + i);
-        i += 1;
+        i = next(rows, first + i + 1) - first;
     }
 }
 
-// Which cells are collected, from number first on.
+fn shown(rows: &[u64], d: usize, asked: bool) -> bool
+    requires { ⌜ Sized (now rows) × (d < 298) ⌝ }
+    ensures { λ r. ⌜ r ≡ cond (bit (now (rows .entry)) 299 d) (bit (now (rows .entry)) 298 d) asked ⌝ }
+{
+    if has(rows, 299, d) {
+        has(rows, 298, d)
+    } else {
+        asked
+    }
+}
+
+// Which cells are listed in the end, from number first on.
 pub fn spread(rows: &[u64], cells: &mut [bool], first: usize)
     requires { ⌜ Sized (now rows) × (first + length (now cells) ≤ 298) ⌝ }
-    ensures { λ _. ⌜ now (cells .exit) ≡ table (length (now (cells .entry))) (λ i. bit (now (rows .entry)) 298 (first + i)) ⌝ }
+    ensures { λ _. ⌜ now (cells .exit) ≡ table (length (now (cells .entry))) (shownAt (now (rows .entry)) first (now (cells .entry))) ⌝ }
 {
-    let mut i = 0;
+    let mut i = next(rows, first) - first;
     while i < cells.len() {
-        cells[i] = has(rows, 298, first + i);
-        i += 1;
+        cells[i] = shown(rows, first + i, cells[i]);
+        i = next(rows, first + i + 1) - first;
     }
 }

@@ -1,36 +1,35 @@
 // The reach of a run, in one pass forwards. The rule of a strip is additive in the listed cells, so the strips so far are a table of rows: what
 // they list where one cell alone is asked.
 ghost use mathlib.Core.Path.{_≡_};
-ghost use mathlib.Core.Bool.{true};
 ghost use mathlib.Core.List.{List};
 ghost use Prim.Native.Nat.{ℕ, _+_, _≤_, _<_};
 ghost use lib.ListN.{length, getD};
-ghost use Rattle.strip.specs.Shape.{shapeOk};
 ghost use Rattle.reach.specs.Reach.{reached};
-ghost use Rattle.reach.specs.Rows.{Sized, Begun, Holds, Kept, Steps, Whole, placed, loadPlace, storePlace, none, cellsIn, collected, shown};
+ghost use Rattle.reach.specs.Rows.{Sized, Passed, Kept, Steps, Whole, placed, loadPlace, storePlace, none, cellsIn, collected, shown};
 use crate::cells::Cells;
 use crate::cells::Outcome;
 use crate::cells::Reached;
-use crate::rows::begin;
 use crate::rows::gather;
 use crate::rows::join;
+use crate::rows::load;
 use crate::rows::settle;
 use crate::rows::spread;
 use crate::rows::wipe;
 use strip::Entry;
 use strip::Read;
+use strip::Shape;
 
 // The number of cell n of those from first on; 298 where it is out of their range.
 fn placed(n: u8, limit: u8, first: usize) -> usize
     requires { ⌜ first + limit ≤ 298 ⌝ }
-    ensures { λ r. ⌜ (r ≡ placed n limit first) × (r < 299) ⌝ }
+    ensures { λ r. ⌜ r ≡ placed n limit first ⌝ }
 {
     if n < limit { first + n as usize } else { 298 }
 }
 
 // Of the cell that an entry loads; a note loads none.
 fn load_place(k: u8, n: u8) -> usize
-    ensures { λ r. ⌜ (r ≡ loadPlace k n) × (r < 299) ⌝ }
+    ensures { λ r. ⌜ r ≡ loadPlace k n ⌝ }
 {
     if k == 4 {
         return placed(n, 255, 0);
@@ -49,7 +48,7 @@ fn load_place(k: u8, n: u8) -> usize
 
 // Of the cell that an entry stores.
 fn store_place(k: u8, n: u8) -> usize
-    ensures { λ r. ⌜ (r ≡ storePlace k n) × (r < 299) ⌝ }
+    ensures { λ r. ⌜ r ≡ storePlace k n ⌝ }
 {
     if k == 7 {
         return placed(n, 255, 0);
@@ -117,7 +116,7 @@ impl Seen {
             Entry::Bare(k) => return self.bare(k, rows, stored),
             Entry::Word(_) => return self,
             Entry::Cell(k, n) => {
-                join(rows, 298, load_place(k, n));
+                load(rows, load_place(k, n));
                 return self;
             }
             Entry::Store(k, n, _) => return self.store(k, n, stored),
@@ -129,24 +128,32 @@ impl Seen {
     }
 }
 
-// The strips of a run that is in order.
-fn pass(run: &[u8], rows: &mut [u64])
-    requires { ⌜ Begun (now rows) × (shapeOk (now run) ≡ true) ⌝ }
-    ensures { λ _. ⌜ Holds (now (rows .exit)) (now (run .entry)) ⌝ }
+// The strips of a run, each entry behind its step of the shape test; whether the run is in order.
+fn pass(run: &[u8], rows: &mut [u64]) -> bool
+    requires { ⌜ Sized (now rows) × ((i : ℕ) → getD (now rows) i 0 ≡ 0) ⌝ }
+    ensures { λ r. ⌜ Passed (now (rows .exit)) (now (run .entry)) r ⌝ }
 {
     let mut stored = [0usize; 64];
     let mut s = Seen::none();
+    let mut g = Shape::new();
     let mut at = 0;
     while at < run.len() {
         let Read::Found(e, n) = strip::read_entry(&run[at..]) else {
-            return;
+            return false;
         };
+        g = g.step(e);
+        let left = g.left;
+        if left == 0 {
+            return false;
+        }
         s = s.step(e, rows, &mut stored);
         at = at + n;
     }
+    let left = g.left;
+    left == 64
 }
 
-// The rows of the asked cells, collected.
+// The rows of the asked cells, collected; row 299 has these cells too.
 fn collect_asked(rows: &mut [u64], regs: &[bool], preds: &[bool], flags: &[bool], slots: &[bool])
     requires { ⌜ Sized (now rows) × Whole (cellsIn (now regs) (now preds) (now flags) (now slots)) ⌝ }
     ensures { λ _. ⌜ now (rows .exit) ≡ collected (now (rows .entry)) (cellsIn (now (regs .entry)) (now (preds .entry)) (now (flags .entry)) (now (slots .entry))) ⌝ }
@@ -155,12 +162,13 @@ fn collect_asked(rows: &mut [u64], regs: &[bool], preds: &[bool], flags: &[bool]
     gather(rows, preds, 255);
     gather(rows, flags, 262);
     gather(rows, slots, 266);
+    join(rows, 299, 298);
 }
 
-// What is collected, as cells.
+// What is collected, as cells, beside the asked ones that have no row.
 fn show(rows: &[u64], regs: &mut [bool], preds: &mut [bool], flags: &mut [bool], slots: &mut [bool])
     requires { ⌜ Sized (now rows) × Whole (cellsIn (now regs) (now preds) (now flags) (now slots)) ⌝ }
-    ensures { λ _. ⌜ cellsIn (now (regs .exit)) (now (preds .exit)) (now (flags .exit)) (now (slots .exit)) ≡ shown (now (rows .entry)) ⌝ }
+    ensures { λ _. ⌜ cellsIn (now (regs .exit)) (now (preds .exit)) (now (flags .exit)) (now (slots .exit)) ≡ shown (now (rows .entry)) (cellsIn (now (regs .entry)) (now (preds .entry)) (now (flags .entry)) (now (slots .entry))) ⌝ }
 {
     spread(rows, regs, 0);
     spread(rows, preds, 255);
@@ -168,10 +176,10 @@ fn show(rows: &[u64], regs: &mut [bool], preds: &mut [bool], flags: &mut [bool],
     spread(rows, slots, 266);
 }
 
-// The cells in the rows of the asked ones.
+// The cells that the asked ones list.
 fn answer(rows: &mut [u64], asked: Cells) -> Reached
     requires { ⌜ Sized (now rows) ⌝ }
-    ensures { λ r. ⌜ r ≡ record { cells = shown (collected (now (rows .entry)) asked); outcome = Outcome.Done } ⌝ }
+    ensures { λ r. ⌜ r ≡ record { cells = shown (collected (now (rows .entry)) asked) asked; outcome = Outcome.Done } ⌝ }
 {
     let mut regs = asked.regs;
     let mut preds = asked.preds;
@@ -194,10 +202,8 @@ fn answer(rows: &mut [u64], asked: Cells) -> Reached
 pub fn reach(run: &[u8], asked: Cells) -> Reached
     ensures { λ r. ⌜ r ≡ reached (now (run .entry)) asked ⌝ }
 {
-    if strip::shape_ok(run) {
-        let mut rows = [0u64; 1495];
-        begin(&mut rows);
-        pass(run, &mut rows);
+    let mut rows = [0u64; 1500];
+    if pass(run, &mut rows) {
         return answer(&mut rows, asked);
     }
     Reached {

@@ -12,14 +12,24 @@ use lib.ListN.{length, take, getD, set, replicate, length-append, length-drop, l
 use lib.Seq.{sets, take-suc, length-take-le, length-sets}
 use Rattle.io.specs.Counts.{Counts}
 use Rattle.io.specs.Digits.{glyph, digits, Fewest}
-use Rattle.translation.specs.Insn.{Insn}
-use Rattle.translation.specs.Strip.{Answer, refusalNumber, strip, insnOf, known, laneMov, byteThree, refused, fitted, admitted, translation}
+use Rattle.translation.specs.Strip.{Answer, refusalNumber, written, translation}
 use Rattle.translation.specs.declared.answer.Outcome.{Outcome}
 use Rattle.translation.specs.declared.answer.Outcome.the-variants.{Written, Refused}
 use Rattle.translation.specs.declared.answer.Refusal.{Refusal}
 use Rattle.translation.specs.declared.answer.Refusal.the-variants.{BadLength, UnknownKind, UnknownForm, LaneMov, ByteThree, NoRoom}
 use Rattle.translation.proofs.Fits.{sets-append}
-use Rattle.strip_printer.specs.Line.{hexOf, spelled, decimalOf, refusedText, writtenOf, textOf}
+use Rattle.translation.proofs.Shape.{fits}
+use Rattle.strip_printer.specs.Line.{hexOf, spelled, decimalOf, refusedText, textOf}
+
+-- ---- a refusal's number has one digit
+pub one-digit : (r : Refusal) → refusalNumber r < 10
+unfolding refusalNumber
+one-digit BadLength = omega arith
+one-digit UnknownKind = omega arith
+one-digit UnknownForm = omega arith
+one-digit LaneMov = omega arith
+one-digit ByteThree = omega arith
+one-digit NoRoom = omega arith
 
 -- ---- hex
 pub hex-append : (a b : List ℕ) → hexOf (a ++ b) ≡ hexOf a ++ hexOf b
@@ -108,15 +118,15 @@ refused-size r = refl
 
 -- ---- the two texts
 module _ (o : Outcome) (room : List ℕ) where
-  pub written : (n : ℕ) → o ≡ Written n → writtenOf o ≡ n
-  unfolding writtenOf
-  written n e = rw e
+  pub written-is : (n : ℕ) → o ≡ Written n → written o ≡ n
+  unfolding written
+  written-is n e = rw e
 
-  pub strip-answer : (base out : List ℕ) (at r n : ℕ) → o ≡ Written n → writtenOf o ≤ length room → writtenOf o ≤ 256 → out ≡ sets base at (hexOf (take n room)) → r ≡ at + 2 * n
+  pub strip-answer : (base out : List ℕ) (at r n : ℕ) → o ≡ Written n → written o ≤ length room → written o ≤ 256 → out ≡ sets base at (hexOf (take n room)) → r ≡ at + 2 * n
       → (out ≡ sets base at (textOf o room)) × ((r ≡ at + length (textOf o room)) × (r ≤ at + 512))
   unfolding textOf
   strip-answer base out at r n e h k x y =
-      let w = written n e in
+      let w = written-is n e in
       let l : length (take n room) ≡ n = length-take-le n room (omega arith) in
       rw e (x, (omega (arith, length-hex (take n room)), omega arith))
 
@@ -138,44 +148,14 @@ pub line-size : (d t : List ℕ) → length (d ++ (32 ∷ (t ++ (10 ∷ [])))) �
 line-size d t = rw (length-append, length-append) (omega arith)
 
 -- ---- answers
-pub record Fitting (out : List ℕ) (a : Answer) : Type 0 where
-  pub same : length (a .out) ≡ length out
-  pub within : writtenOf (a .outcome) ≤ length out
-
-refused-fits : (r : Refusal) (m out : List ℕ) → Fitting out (refused r m out)
-unfolding writtenOf
-refused-fits r m out = record { same = refl; within = omega arith }
-
-either-fits : (b : Bool) (x y : Answer) (out : List ℕ) → Fitting out x → Fitting out y → Fitting out (cond b x y)
-either-fits true x y out p q = p
-either-fits false x y out p q = q
-
-fitted-fits : (k : ℕ) (i : Insn) (m out : List ℕ) → Fitting out (fitted k i m out)
-unfolding fitted writtenOf
-fitted-fits k i m out = by (leb (length (strip k i)) (length out)) refl
-  where
-    by : (b : Bool) → leb (length (strip k i)) (length out) ≡ b → Fitting out (fitted k i m out)
-    by true e = let h : length (strip k i) ≤ length out = leb-true _ _ e in rw e (record { same = rw (length-append, length-drop) (omega arith); within = h })
-    by false e = rw e (refused-fits NoRoom m out)
-
-pub fits : (l m out : List ℕ) → Fitting out (translation l m out)
-unfolding translation admitted
-fits l m out =
-    let k = getD l 0 0 in
-    let i = insnOf l in
-    let three = either-fits (byteThree k i) _ _ out (refused-fits ByteThree m out) (fitted-fits k i m out) in
-    let lane = either-fits (laneMov k i) _ _ out (refused-fits LaneMov m out) three in
-    let form = either-fits (ltb 2 (i .form)) _ _ out (refused-fits UnknownForm m out) lane in
-    let kind = either-fits (known k) _ _ out form (refused-fits UnknownKind m out) in
-    either-fits (eqb (length l) 18) _ _ out kind (refused-fits BadLength m out)
 
 -- of an answer in 256 bytes
 module _ {a : Answer} (l m : List ℕ) (e : a ≡ translation l m (replicate 256 0)) where
   pub fits-length : length (a .out) ≡ 256
   fits-length = rw e (fits l m (replicate 256 0) .same)
 
-  pub fits-most : writtenOf (a .outcome) ≤ 256
+  pub fits-most : written (a .outcome) ≤ 256
   fits-most = rw e (fits l m (replicate 256 0) .within)
 
-  pub fits-room : writtenOf (a .outcome) ≤ length (a .out)
+  pub fits-room : written (a .outcome) ≤ length (a .out)
   fits-room = omega (arith, fits-length, fits-most)

@@ -36,11 +36,6 @@ unfoldable pub textOf : Outcome → List ℕ → List ℕ
 textOf (Written n) out = hexOf (take n out)
 textOf (Refused r) out = refusedText r
 
--- so much of the room the strip takes
-unfoldable pub writtenOf : Outcome → ℕ
-writtenOf (Written n) = n
-writtenOf (Refused r) = 0
-
 -- the line, with its end
 unfoldable pub lineOf : ℕ → Outcome → List ℕ → List ℕ
 lineOf index o out = decimalOf index ++ (32 ∷ (textOf o out ++ (10 ∷ [])))

@@ -6,8 +6,8 @@ ghost use mathlib.Core.List.{List};
 ghost use lib.ListN.{length, take};
 ghost use lib.Seq.{sets};
 ghost use Rattle.io.specs.Digits.{glyph as Digits·glyph};
-ghost use Rattle.translation.specs.Strip.{refusalNumber};
-ghost use Rattle.strip_printer.specs.Line.{hexOf, decimalOf, refusedText, writtenOf, textOf, lineOf, goesOn};
+ghost use Rattle.translation.specs.Strip.{refusalNumber, written};
+ghost use Rattle.strip_printer.specs.Line.{hexOf, decimalOf, refusedText, textOf, lineOf, goesOn};
 ghost use Rattle.strip_printer.specs.Line.{answerTo, behind, added, Printed, Stands, begun, step, lines};
 use translation::Outcome;
 use translation::Refusal;
@@ -71,14 +71,7 @@ fn decimal(n: u64, out: &mut [u8], at: usize) -> usize
 fn digit(r: Refusal) -> u8
     ensures { λ n. ⌜ n ≡ 48 + refusalNumber r ⌝ }
 {
-    match r {
-        Refusal::BadLength => b'1',
-        Refusal::UnknownKind => b'2',
-        Refusal::UnknownForm => b'3',
-        Refusal::LaneMov => b'4',
-        Refusal::ByteThree => b'5',
-        Refusal::NoRoom => b'6',
-    }
+    b'0' + translation::refusal_number(r) as u8
 }
 
 // `refused N` from a place on, and the place behind it.
@@ -104,7 +97,7 @@ fn strip(room: &[u8], n: usize, out: &mut [u8], at: usize) -> usize
 
 // The strip or `refused N` from a place on, and the place behind it.
 fn answer(o: Outcome, room: &[u8], out: &mut [u8], at: usize) -> usize
-    requires { ⌜ (writtenOf o ≤ length (now room)) × (writtenOf o ≤ 256) × (at + 512 ≤ length (now out)) ⌝ }
+    requires { ⌜ (written o ≤ length (now room)) × (written o ≤ 256) × (at + 512 ≤ length (now out)) ⌝ }
     ensures { λ r. ⌜ now (out .exit) ≡ sets (now (out .entry)) at (textOf o (now (room .entry))) ⌝ }
     ensures { λ r. ⌜ (r ≡ at + length (textOf o (now (room .entry)))) × (r ≤ at + 512) ⌝ }
 {
@@ -126,7 +119,7 @@ fn goes_on(o: Outcome) -> bool
 
 // A line from a place on, and the place behind it.
 fn text(index: u64, o: Outcome, room: &[u8], out: &mut [u8], at: usize) -> usize
-    requires { ⌜ (writtenOf o ≤ length (now room)) × (writtenOf o ≤ 256) × (at + 534 ≤ length (now out)) ⌝ }
+    requires { ⌜ (written o ≤ length (now room)) × (written o ≤ 256) × (at + 534 ≤ length (now out)) ⌝ }
     ensures { λ r. ⌜ now (out .exit) ≡ sets (now (out .entry)) at (lineOf index o (now (room .entry))) ⌝ }
     ensures { λ r. ⌜ (r ≡ at + length (lineOf index o (now (room .entry)))) × (r ≤ at + 534) ⌝ }
 {

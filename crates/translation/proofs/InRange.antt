@@ -61,12 +61,12 @@ fits-renamed f (Of.Two k a b) h = h
 fits-renamed f (Of.Three k a b c) h = h
 fits-renamed f (Of.Four k a b c d) h = h
 
-taken : (x y : Bool) → either true x y ≡ true → x ≡ true
+pub taken : (x y : Bool) → either true x y ≡ true → x ≡ true
 unfolding either
 taken true y h = refl
 taken false y h = absurd (false≢true h)
 
-left-out : (x y : Bool) → either false x y ≡ true → y ≡ true
+pub left-out : (x y : Bool) → either false x y ≡ true → y ≡ true
 unfolding either
 left-out true true h = refl
 left-out true false h = absurd (false≢true h)

@@ -6,7 +6,7 @@ use mathlib.Core.Option.{some}
 use Prim.Native.Nat.{ℕ, _≤_}
 use native.Mathlib.Omega.{arith}
 use lib.Dec.{eqb, ltb, leb}
-use lib.ListN.{length, getD, take, drop}
+use lib.ListN.{length, getD, take, drop, length-append, length-drop}
 use lib.Seq.{take-at}
 use borrow.Author.Tests.{leb-true}
 use Rattle.strip.specs.declared.reader.Entry.the-variants as Of
@@ -17,7 +17,7 @@ use Rattle.translation.specs.Insn.{Insn}
 use Rattle.translation.specs.Code.{Code, build}
 use Rattle.translation.specs.Helpers.{p}
 use Rattle.translation.specs.Arms.{armOf}
-use Rattle.translation.specs.Strip.{Answer, guard, guardNot, block, guarded, entriesOf, strip, marked, insnOf, known, laneMov, byteThree, admits, refused, fitted, admitted, translation}
+use Rattle.translation.specs.Strip.{Answer, guard, guardNot, block, guarded, entriesOf, strip, marked, insnOf, known, laneMov, byteThree, admits, refused, fitted, admitted, translation, written}
 use Rattle.translation.specs.declared.answer.Outcome.{Outcome}
 use Rattle.translation.specs.declared.answer.Outcome.the-variants.{Written, Refused}
 use Rattle.translation.specs.declared.answer.Refusal.{Refusal}
@@ -77,10 +77,6 @@ abbrev isWritten : Outcome → Bool
 isWritten (Written n) = true
 isWritten (Refused r) = false
 
-abbrev lengthOf : Outcome → ℕ
-lengthOf (Written n) = n
-lengthOf (Refused r) = 0
-
 -- what an accepted translation hands back
 pub record Accepted (l m room : List ℕ) (n : ℕ) (r : Answer) : Type 0 where
   pub size : n ≡ length (strip (getD l 0 0) (insnOf l))
@@ -89,7 +85,7 @@ pub record Accepted (l m room : List ℕ) (n : ℕ) (r : Answer) : Type 0 where
   pub out : r .out ≡ strip (getD l 0 0) (insnOf l) ++ drop n room
 
 pub accepted : (l m out : List ℕ) (n : ℕ) → translation l m out .outcome ≡ Written n → (admits l ≡ true) × Accepted l m out n (translation l m out)
-unfolding translation admitted fitted admits
+unfolding translation admitted fitted admits written
 accepted l m out n h =
     go (eqb (length l) 18) (known k) (ltb 2 (insnOf l .form)) (laneMov k (insnOf l)) (byteThree k (insnOf l)) (leb (length s) (length out)) (leb-true (length s) (length out)) h
   where
@@ -115,7 +111,7 @@ accepted l m out n h =
     go true true false true e f w = none false LaneMov
     go true true false false true f w = none false ByteThree
     go true true false false false false w = none true NoRoom
-    go true true false false false true w = λ x. let q : length s ≡ n = ap lengthOf x in (refl, record { size = sym q; fits = rw (← q) (w refl); marks = refl; out = ap (λ (j : ℕ). s ++ drop j out) q })
+    go true true false false false true w = λ x. let q : length s ≡ n = ap written x in (refl, record { size = sym q; fits = rw (← q) (w refl); marks = refl; out = ap (λ (j : ℕ). s ++ drop j out) q })
 
 -- the bytes of an accepted record are one strip that passes the shape test: that of its entries
 pub accepted-strip : (l m out : List ℕ) (n : ℕ) → translation l m out .outcome ≡ Written n → take n (translation l m out .out) ≡ strip (getD l 0 0) (insnOf l)
@@ -123,3 +119,35 @@ accepted-strip l m out n h = let a = accepted l m out n h .1 in rw (a .out) (tak
 
 pub accepted-shape : (l m out : List ℕ) (n : ℕ) → translation l m out .outcome ≡ Written n → shapeOk (take n (translation l m out .out)) ≡ true
 accepted-shape l m out n h = rw (accepted-strip l m out n h) (strip-shape (getD l 0 0) (insnOf l))
+
+-- an answer keeps the room's length, and what it writes fits
+pub record Fitting (out : List ℕ) (a : Answer) : Type 0 where
+  pub same : length (a .out) ≡ length out
+  pub within : written (a .outcome) ≤ length out
+
+refused-fits : (r : Refusal) (m out : List ℕ) → Fitting out (refused r m out)
+unfolding written
+refused-fits r m out = record { same = refl; within = omega arith }
+
+either-fits : (b : Bool) (x y : Answer) (out : List ℕ) → Fitting out x → Fitting out y → Fitting out (cond b x y)
+either-fits true x y out p q = p
+either-fits false x y out p q = q
+
+fitted-fits : (k : ℕ) (i : Insn) (m out : List ℕ) → Fitting out (fitted k i m out)
+unfolding fitted written
+fitted-fits k i m out = by (leb (length (strip k i)) (length out)) refl
+  where
+    by : (b : Bool) → leb (length (strip k i)) (length out) ≡ b → Fitting out (fitted k i m out)
+    by true e = let h : length (strip k i) ≤ length out = leb-true _ _ e in rw e (record { same = rw (length-append, length-drop) (omega arith); within = h })
+    by false e = rw e (refused-fits NoRoom m out)
+
+pub fits : (l m out : List ℕ) → Fitting out (translation l m out)
+unfolding translation admitted
+fits l m out =
+    let k = getD l 0 0 in
+    let i = insnOf l in
+    let three = either-fits (byteThree k i) _ _ out (refused-fits ByteThree m out) (fitted-fits k i m out) in
+    let lane = either-fits (laneMov k i) _ _ out (refused-fits LaneMov m out) three in
+    let form = either-fits (ltb 2 (i .form)) _ _ out (refused-fits UnknownForm m out) lane in
+    let kind = either-fits (known k) _ _ out form (refused-fits UnknownKind m out) in
+    either-fits (eqb (length l) 18) _ _ out kind (refused-fits BadLength m out)

@@ -816,9 +816,9 @@ lea i = fn0 do
   v ← fn1! (set (rd i)) v
   pure v
 
--- ---- all of them, by kind
+-- ---- all of them, by kind, in four groups
 
--- conversion, counts, predicates and flags in a register, two words at once
+-- vmnmx, conversion, counts, predicates and flags in a register, two words at once
 unfoldable pub wordArm : ℕ → Insn → Code
 wordArm k i =
     ite (eqb k 23) (vmnmx i)
@@ -829,7 +829,7 @@ wordArm k i =
     (ite (eqb k 28) (p2r i)
     (ite (eqb k 29) (shf i) (lea i)))))))
 
--- logic, shifts and fields
+-- logic, shifts and fields, and the group above
 unfoldable pub bitArm : ℕ → Insn → Code
 bitArm k i =
     ite (eqb k 16) (lop i)
@@ -840,7 +840,7 @@ bitArm k i =
     (ite (eqb k 21) (bfe i)
     (ite (eqb k 22) (bfi i) (wordArm k i)))))))
 
--- sums, minimum, comparison
+-- sums, minimum, comparison, and the groups above
 unfoldable pub sumArm : ℕ → Insn → Code
 sumArm k i =
     ite (eqb k 9) (iadd i)
@@ -851,7 +851,7 @@ sumArm k i =
     (ite (eqb k 14) (imnmx i)
     (ite (eqb k 15) (icmp i) (bitArm k i)))))))
 
--- moves, predicates; then the others
+-- moves, predicates, and the groups above: all kinds
 unfoldable pub armOf : ℕ → Insn → Code
 armOf k i =
     ite (eqb k 1) (mov i)

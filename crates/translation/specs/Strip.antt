@@ -26,6 +26,16 @@ refusalNumber LaneMov = 4
 refusalNumber ByteThree = 5
 refusalNumber NoRoom = 6
 
+-- and of an answer, 0 of a strip
+unfoldable pub numberOf : Outcome → ℕ
+numberOf (Written n) = 0
+numberOf (Refused r) = refusalNumber r
+
+-- a strip's length, 0 of a refusal
+unfoldable pub written : Outcome → ℕ
+written (Written n) = n
+written (Refused r) = 0
+
 -- the guard: a predicate, negated or not
 abbrev pub guard : Insn → ℕ
 guard i = bits i 16 3

@@ -89,7 +89,7 @@ pub struct Translated {
     pub cbuf_used: [u32; 32],
 }
 
-// The arm of a kind: conversion, counts, predicates and flags in a register, two words at once.
+// The arm of a kind, in four groups. The last: vmnmx, conversion, counts, predicates and flags in a register, two words at once.
 fn word_arm(buf: &mut [u8; 264], at: Pos, kind: u8, i: Insn) -> Made
     ensures { λ m. ⌜ Does (view (now (buf .entry)) at) (seen (now (buf .exit)) m) (wordArm kind i) [] ⌝ }
 {
@@ -105,7 +105,7 @@ fn word_arm(buf: &mut [u8; 264], at: Pos, kind: u8, i: Insn) -> Made
     }
 }
 
-// Logic, shifts and fields; then the above.
+// Logic, shifts and fields, and the group above.
 fn bit_arm(buf: &mut [u8; 264], at: Pos, kind: u8, i: Insn) -> Made
     ensures { λ m. ⌜ Does (view (now (buf .entry)) at) (seen (now (buf .exit)) m) (bitArm kind i) [] ⌝ }
 {
@@ -121,7 +121,7 @@ fn bit_arm(buf: &mut [u8; 264], at: Pos, kind: u8, i: Insn) -> Made
     }
 }
 
-// Sums, minimum, comparison; then the above.
+// Sums, minimum, comparison, and the groups above.
 fn sum_arm(buf: &mut [u8; 264], at: Pos, kind: u8, i: Insn) -> Made
     ensures { λ m. ⌜ Does (view (now (buf .entry)) at) (seen (now (buf .exit)) m) (sumArm kind i) [] ⌝ }
 {
@@ -137,7 +137,7 @@ fn sum_arm(buf: &mut [u8; 264], at: Pos, kind: u8, i: Insn) -> Made
     }
 }
 
-// Moves, predicates; then the above.
+// Moves, predicates, and the groups above: all kinds.
 fn op(buf: &mut [u8; 264], at: Pos, kind: u8, i: Insn) -> Made
     ensures { λ m. ⌜ Does (view (now (buf .entry)) at) (seen (now (buf .exit)) m) (armOf kind i) [] ⌝ }
 {

@@ -34,6 +34,7 @@ use crate::helper::video_operand;
 use crate::insn::Insn;
 use crate::insn::bit;
 use crate::insn::bits;
+use crate::insn::bits8;
 use crate::insn::imm32;
 use crate::insn::ra;
 use crate::insn::rb;
@@ -92,7 +93,7 @@ pub fn r_c(buf: &mut [u8; 264], at: Pos, i: Insn) -> Made
 pub fn p_39(buf: &mut [u8; 264], at: Pos, i: Insn) -> Made
     ensures { λ m. ⌜ Does (view (now (buf .entry)) at) (seen (now (buf .exit)) m) (p (bits i 39 3) (bit i 42)) [] ⌝ }
 {
-    p(buf, at, bits(i, 39, 3) as u8, bit(i, 42))
+    p(buf, at, bits8(i, 39, 3), bit(i, 42))
 }
 
 pub fn set_d(buf: &mut [u8; 264], at: Pos, i: Insn, v: u8) -> Made
@@ -129,12 +130,12 @@ pub fn sel(buf: &mut [u8; 264], at: Pos, i: Insn) -> Made
 pub fn setp_both(buf: &mut [u8; 264], at: Pos, i: Insn, c: u8, pv: u8) -> Made
     ensures { λ m. ⌜ Does (view (now (buf .entry)) at) (seen (now (buf .exit)) m) (setpBoth i) (c ∷ pv ∷ []) ⌝ }
 {
-    let op = bits(i, 45, 2) as u8;
+    let op = bits8(i, 45, 2);
     let x = bool_op(buf, at, op, c, pv);
     let nc = one(buf, x.pos, 80, c);
     let y = bool_op(buf, nc.pos, op, nc.value, pv);
-    let x2 = setp(buf, y.pos, bits(i, 3, 3) as u8, x.value);
-    setp(buf, x2.pos, bits(i, 0, 3) as u8, y.value)
+    let x2 = setp(buf, y.pos, bits8(i, 3, 3), x.value);
+    setp(buf, x2.pos, bits8(i, 0, 3), y.value)
 }
 
 pub fn set_truth(buf: &mut [u8; 264], at: Pos, i: Insn, c: u8) -> Made
@@ -148,7 +149,7 @@ pub fn set_truth(buf: &mut [u8; 264], at: Pos, i: Insn, c: u8) -> Made
 pub fn csetp(buf: &mut [u8; 264], at: Pos, i: Insn) -> Made
     ensures { λ m. ⌜ Does (view (now (buf .entry)) at) (seen (now (buf .exit)) m) (csetp i) [] ⌝ }
 {
-    let c = cc_test(buf, at, bits(i, 8, 5) as u8);
+    let c = cc_test(buf, at, bits8(i, 8, 5));
     let pv = p_39(buf, c.pos, i);
     setp_both(buf, pv.pos, i, c.value, pv.value)
 }
@@ -156,7 +157,7 @@ pub fn csetp(buf: &mut [u8; 264], at: Pos, i: Insn) -> Made
 pub fn set_word(buf: &mut [u8; 264], at: Pos, i: Insn, c: u8, pv: u8) -> Made
     ensures { λ m. ⌜ Does (view (now (buf .entry)) at) (seen (now (buf .exit)) m) (setWord i) (c ∷ pv ∷ []) ⌝ }
 {
-    let x = bool_op(buf, at, bits(i, 45, 2) as u8, c, pv);
+    let x = bool_op(buf, at, bits8(i, 45, 2), c, pv);
     set_truth(buf, x.pos, i, x.value)
 }
 
@@ -178,14 +179,7 @@ pub fn icompare(buf: &mut [u8; 264], at: Pos, pair: bool, i: Insn) -> Made
     let a = r_a(buf, at, i);
     let b = src_b(buf, a.pos, i);
     let pv = p_39(buf, b.pos, i);
-    let c = int_cmp(
-        buf,
-        pv.pos,
-        bits(i, 49, 3) as u8,
-        bit(i, 48),
-        a.value,
-        b.value,
-    );
+    let c = int_cmp(buf, pv.pos, bits8(i, 49, 3), bit(i, 48), a.value, b.value);
     set_either(buf, c.pos, pair, i, c.value, pv.value)
 }
 
@@ -193,10 +187,10 @@ pub fn icompare(buf: &mut [u8; 264], at: Pos, pair: bool, i: Insn) -> Made
 pub fn pcombine(buf: &mut [u8; 264], at: Pos, pair: bool, i: Insn) -> Made
     ensures { λ m. ⌜ Does (view (now (buf .entry)) at) (seen (now (buf .exit)) m) (pcombine pair i) [] ⌝ }
 {
-    let a = p(buf, at, bits(i, 12, 3) as u8, bit(i, 15));
-    let b = p(buf, a.pos, bits(i, 29, 3) as u8, bit(i, 32));
+    let a = p(buf, at, bits8(i, 12, 3), bit(i, 15));
+    let b = p(buf, a.pos, bits8(i, 29, 3), bit(i, 32));
     let c = p_39(buf, b.pos, i);
-    let ab = bool_op(buf, c.pos, bits(i, 24, 2) as u8, a.value, b.value);
+    let ab = bool_op(buf, c.pos, bits8(i, 24, 2), a.value, b.value);
     set_either(buf, ab.pos, pair, i, ab.value, c.value)
 }
 
@@ -340,9 +334,9 @@ pub fn iadd3_fetch(buf: &mut [u8; 264], at: Pos, i: Insn, a: u8) -> Made
     if i.form == 0 {
         let b = r(buf, at, rb(i));
         let c = r_c(buf, b.pos, i);
-        let a = half_select(buf, c.pos, bits(i, 35, 2) as u8, a);
-        let b2 = half_select(buf, a.pos, bits(i, 33, 2) as u8, b.value);
-        let c2 = half_select(buf, b2.pos, bits(i, 31, 2) as u8, c.value);
+        let a = half_select(buf, c.pos, bits8(i, 35, 2), a);
+        let b2 = half_select(buf, a.pos, bits8(i, 33, 2), b.value);
+        let c2 = half_select(buf, b2.pos, bits8(i, 31, 2), c.value);
         iadd3_of(buf, c2.pos, i, a.value, b2.value, c2.value)
     } else {
         let b = src_b(buf, at, i);
@@ -508,14 +502,7 @@ pub fn icmp_of(buf: &mut [u8; 264], at: Pos, i: Insn, a: u8, b: u8, c: u8) -> Ma
     ensures { λ m. ⌜ Does (view (now (buf .entry)) at) (seen (now (buf .exit)) m) (icmpOf i) (a ∷ b ∷ c ∷ []) ⌝ }
 {
     let zero = u(buf, at, 0);
-    let t = int_cmp(
-        buf,
-        zero.pos,
-        bits(i, 49, 3) as u8,
-        bit(i, 48),
-        c,
-        zero.value,
-    );
+    let t = int_cmp(buf, zero.pos, bits8(i, 49, 3), bit(i, 48), c, zero.value);
     let v = three(buf, t.pos, 90, t.value, a, b);
     set_d(buf, v.pos, i, v.value)
 }
@@ -567,12 +554,12 @@ pub fn lop_test(buf: &mut [u8; 264], at: Pos, t: u8, v: u8, z: u8) -> Made
 pub fn lop_predicate(buf: &mut [u8; 264], at: Pos, i: Insn, v: u8) -> Made
     ensures { λ m. ⌜ Does (view (now (buf .entry)) at) (seen (now (buf .exit)) m) (lopPredicate i) (v ∷ []) ⌝ }
 {
-    let k = bits(i, 48, 3) as u8;
+    let k = bits8(i, 48, 3);
     if k == 7 {
         Made { pos: at, value: v }
     } else {
         let zero = u(buf, at, 0);
-        let t = lop_test(buf, zero.pos, bits(i, 44, 2) as u8, v, zero.value);
+        let t = lop_test(buf, zero.pos, bits8(i, 44, 2), v, zero.value);
         let t2 = setp(buf, t.pos, k, t.value);
         let q = t2.pos;
         Made { pos: q, value: v }
@@ -586,7 +573,7 @@ pub fn lop(buf: &mut [u8; 264], at: Pos, i: Insn) -> Made
     let a = r_a(buf, b.pos, i);
     let a2 = inot(buf, a.pos, bit(i, 39), a.value);
     let b2 = inot(buf, a2.pos, bit(i, 40), b.value);
-    let v = lop_word(buf, b2.pos, bits(i, 41, 2) as u8, a2.value, b2.value);
+    let v = lop_word(buf, b2.pos, bits8(i, 41, 2), a2.value, b2.value);
     let v2 = set_cc_none(buf, v.pos, bit(i, 47), v.value);
     let v3 = lop_predicate(buf, v2.pos, i, v2.value);
     set_d(buf, v3.pos, i, v3.value)
@@ -599,7 +586,7 @@ pub fn lop32i(buf: &mut [u8; 264], at: Pos, i: Insn) -> Made
     let a = r_a(buf, b.pos, i);
     let a2 = inot(buf, a.pos, bit(i, 55), a.value);
     let b2 = inot(buf, a2.pos, bit(i, 56), b.value);
-    let v = lop_word(buf, b2.pos, bits(i, 53, 2) as u8, a2.value, b2.value);
+    let v = lop_word(buf, b2.pos, bits8(i, 53, 2), a2.value, b2.value);
     let v2 = set_cc_none(buf, v.pos, bit(i, 52), v.value);
     set_d(buf, v2.pos, i, v2.value)
 }
@@ -757,7 +744,7 @@ pub fn vmnmx_b(buf: &mut [u8; 264], at: Pos, i: Insn) -> Made
 {
     if bit(i, 50) {
         let b = r(buf, at, rb(i));
-        video_operand(buf, b.pos, bits(i, 28, 3) as u8, bit(i, 49), b.value)
+        video_operand(buf, b.pos, bits8(i, 28, 3), bit(i, 49), b.value)
     } else {
         u(buf, at, vmnmx_imm(i))
     }
@@ -884,7 +871,7 @@ pub fn vmnmx_of(buf: &mut [u8; 264], at: Pos, i: Insn, a: u8, b: u8, c: u8) -> M
         v.value,
         zero.value,
     );
-    let v3 = vmnmx_merge(buf, v2.pos, bits(i, 51, 3) as u8, bit54, v2.value, c);
+    let v3 = vmnmx_merge(buf, v2.pos, bits8(i, 51, 3), bit54, v2.value, c);
     set_d(buf, v3.pos, i, v3.value)
 }
 
@@ -892,7 +879,7 @@ pub fn vmnmx(buf: &mut [u8; 264], at: Pos, i: Insn) -> Made
     ensures { λ m. ⌜ Does (view (now (buf .entry)) at) (seen (now (buf .exit)) m) (vmnmx i) [] ⌝ }
 {
     let a = r_a(buf, at, i);
-    let a2 = video_operand(buf, a.pos, bits(i, 36, 3) as u8, bit(i, 48), a.value);
+    let a2 = video_operand(buf, a.pos, bits8(i, 36, 3), bit(i, 48), a.value);
     let b = vmnmx_b(buf, a2.pos, i);
     let c = r_c(buf, b.pos, i);
     vmnmx_of(buf, c.pos, i, a2.value, b.value, c.value)
@@ -933,20 +920,13 @@ pub fn i2i(buf: &mut [u8; 264], at: Pos, i: Insn) -> Made
 {
     let bit13 = bit(i, 13);
     let bit12 = bit(i, 12);
-    let bits8 = bits(i, 8, 2) as u8;
+    let size = bits8(i, 8, 2);
     let b = src_b(buf, at, i);
-    let v = int_source(
-        buf,
-        b.pos,
-        bits(i, 10, 2) as u8,
-        bit13,
-        bits(i, 41, 2) as u8,
-        b.value,
-    );
+    let v = int_source(buf, b.pos, bits8(i, 10, 2), bit13, bits8(i, 41, 2), b.value);
     let v2 = absolute(buf, v.pos, both(bit(i, 49), bit13), v.value);
     let v3 = ineg(buf, v2.pos, bit(i, 45), v2.value);
-    let v4 = saturate_if(buf, v3.pos, bit(i, 50), bit13, bit12, bits8, v3.value);
-    let v5 = int_source(buf, v4.pos, bits8, bit12, 0, v4.value);
+    let v4 = saturate_if(buf, v3.pos, bit(i, 50), bit13, bit12, size, v3.value);
+    let v5 = int_source(buf, v4.pos, size, bit12, 0, v4.value);
     set_d(buf, v5.pos, i, v5.value)
 }
 

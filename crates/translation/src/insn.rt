@@ -17,6 +17,13 @@ pub fn bits(i: Insn, lo: u8, n: u8) -> u64
     (i.word >> (lo % 64)) % (1 << (n % 64))
 }
 
+// At most eight bits, as a byte.
+pub fn bits8(i: Insn, lo: u8, n: u8) -> u8
+    ensures { λ r. ⌜ r ≡ bits i (lo % 64) (n % 9) ⌝ }
+{
+    bits(i, lo, n % 9) as u8
+}
+
 pub fn bit(i: Insn, k: u8) -> bool
     ensures { λ r. ⌜ r ≡ bit i (k % 64) ⌝ }
 {

@@ -25,6 +25,7 @@ mod raw {
             out_len: usize,
             written: *mut usize,
         ) -> u32;
+        pub fn mehkura_reach(run: *const u8, run_len: usize, cells: *mut u8, cells_len: usize) -> u32;
     }
 }
 
@@ -66,7 +67,11 @@ impl From<&meaning::State> for Cells {
 /// The number that the library gives for a run of strips: 0 if it is evaluated, else 7, 8 or 9. The cells become those
 /// behind the run; a refusal must leave them as they are.
 pub fn evaluate(run: &[u8], cells: &mut Cells, constants: &[u32]) -> u32 {
-    let Cells { registers, truths } = cells;
+    evaluate_lists(run, &mut cells.registers, &mut cells.truths, constants)
+}
+
+/// The same with lists of any length. Other lengths than 255 and 11 must be refused with 7.
+pub fn evaluate_lists(run: &[u8], registers: &mut [u32], truths: &mut [u8], constants: &[u32]) -> u32 {
     // SAFETY: the pointers and lengths are those of live slices. The library writes to registers and truths alone,
     // which are borrowed for that and do not overlap.
     unsafe {
@@ -100,4 +105,12 @@ pub fn translate(record: &[u8], marks: &mut [u8], room: &mut [u8], written: &mut
             written,
         )
     }
+}
+
+/// The number that the library gives for a run of strips and a list of cells: 0 if the cells became those that can
+/// matter to them, else 7. A refusal must leave them as they are.
+pub fn reach(run: &[u8], cells: &mut [u8]) -> u32 {
+    // SAFETY: the pointers and lengths are those of live slices. The library writes to the cells alone, which are
+    // borrowed for that and do not overlap the run.
+    unsafe { raw::mehkura_reach(run.as_ptr(), run.len(), cells.as_mut_ptr(), cells.len()) }
 }

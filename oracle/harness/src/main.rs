@@ -1,10 +1,14 @@
 //! The program `harness`: see [`HELP`].
 
+mod bench;
 mod evaluate_bench;
 mod evaluate_diff;
 mod ffi;
 mod meaning_diff;
 mod pair;
+mod random_bytes;
+mod reach_bench;
+mod reach_diff;
 mod runs;
 mod shape_bench;
 mod shape_diff;
@@ -22,16 +26,11 @@ Usage:
       Runs both shape tests on COUNT random runs of strips (translated, made at random, near misses, damaged, short
       bytes) and on all byte strings of up to 3 bytes. Prints the verdicts for each class and each difference.
       Some hundred runs are needed for every class to have both verdicts.
-  harness shape-bench
-      Measures both shape tests on the same translated strips and prints nanoseconds for each entry.
   harness evaluate-diff COUNT SEED
       Runs both evaluations on COUNT random runs of strips (translated, made at random, near misses, damaged, mixed)
       from random states with random lists of constants. Compares the number and the whole state, which a refusal must
       leave as it was. Prints the answers for each class and each difference.
       Some thousand runs are needed for every class to have its answers.
-  harness evaluate-bench
-      Measures both evaluations, each with its shape test, on the same translated strips and prints nanoseconds for each
-      entry.
   harness translate-diff COUNT SEED
       Translates COUNT random records (random bytes, known kinds, admitted ones, near misses of the refusals 4 and 5)
       with both, into rooms that are exactly long enough, longer, shorter or empty, and carries the use marks along.
@@ -40,17 +39,29 @@ Usage:
   harness translate-bits STEP SEED
       The same for every kind, form and telling opcode value with every STEPth setting of the bits 39 to 56 (1: all
       262,144), the other bits random. One thread for each processor.
-  harness translate-bench
-      Measures both translations on the same records and prints nanoseconds for each record.
   harness meaning-diff COUNT SEED
       Translates random admitted records of every kind and form, evaluates their strips, alone and several as one run,
       and compares number and state with the meanings of 01 in plain Rust. COUNT is the number of records. Some hundred
       thousand are needed for every kind and form to be seen under every guard and with every telling opcode value.
+  harness reach-diff COUNT SEED
+      Runs both reaches on COUNT random runs of no to some hundred strips (translated, made at random, near misses,
+      damaged, mixed) with random asked cells, few or many, whose bytes are any but 0, and with lists of another length.
+      Compares the number and every byte, also beside the list. Prints for each class the answers and in how many runs
+      the list gained and lost cells. Some thousand runs are needed for every class to have its answers.
+  harness random-bytes COUNT SEED
+      Calls each function of the library COUNT times on random bytes, on records and runs with bytes changed, and on
+      lists of right and wrong lengths. A number that the function cannot answer, a write beside a lent list, or any
+      write where it refuses is wrong. Prints how often each number was answered; each must be seen. Some ten thousand
+      calls are needed. One thread for each processor.
+  harness bench [shape | evaluation | translation | reach]
+      Measures port and Rust on the same work and prints one table: nanoseconds for each strip by the port and by the
+      Rust, and their ratio, port to Rust. Best of many rounds, port and Rust in turn. With a name only these rows.
   harness help | --help | -h
       Prints this text.
 
 SEED is a number in decimal, or in hex with 0x.
-Exit status: 0 no difference, 1 a difference or a class that lacks an answer, 2 wrong usage.
+Exit status: 0 no difference, 1 a difference, a wrong answer or an answer that ought to be seen and is not, 2 wrong
+usage.
 ";
 
 fn main() -> ExitCode {
@@ -64,11 +75,9 @@ fn main() -> ExitCode {
         ["shape-diff", count, seed] => {
             number(count).and_then(|count| number(seed).map(|seed| shape_diff::run(count, seed)))
         }
-        ["shape-bench"] => Ok(shape_bench::run()),
         ["evaluate-diff", count, seed] => {
             number(count).and_then(|count| number(seed).map(|seed| evaluate_diff::run(count, seed)))
         }
-        ["evaluate-bench"] => Ok(evaluate_bench::run()),
         ["translate-diff", count, seed] => {
             number(count).and_then(|count| number(seed).map(|seed| translate_diff::run(count, seed)))
         }
@@ -76,14 +85,21 @@ fn main() -> ExitCode {
             let seed = number(seed)?;
             translate_bits::run(step, seed).ok_or_else(|| format!("no step of {step}"))
         }),
-        ["translate-bench"] => Ok(translate_bench::run()),
         ["meaning-diff", count, seed] => {
             number(count).and_then(|count| number(seed).map(|seed| meaning_diff::run(count, seed)))
         }
+        ["reach-diff", count, seed] => {
+            number(count).and_then(|count| number(seed).map(|seed| reach_diff::run(count, seed)))
+        }
+        ["bench"] => Ok(bench::run(None).expect("all parts")),
+        ["bench", part] => bench::run(Some(part)).ok_or_else(|| format!("no benchmark `{part}`")),
+        ["random-bytes", count, seed] => {
+            number(count).and_then(|count| number(seed).map(|seed| random_bytes::run(count, seed)))
+        }
         [] => Err("no command".to_owned()),
         [
-            command @ ("shape-diff" | "shape-bench" | "evaluate-diff" | "evaluate-bench" | "translate-diff"
-            | "translate-bits" | "translate-bench" | "meaning-diff"),
+            command @ ("shape-diff" | "evaluate-diff" | "translate-diff" | "translate-bits" | "meaning-diff"
+            | "reach-diff" | "random-bytes" | "bench"),
             ..,
         ] => Err(format!("wrong arguments for `{command}`")),
         [command, ..] => Err(format!("no command `{command}`")),

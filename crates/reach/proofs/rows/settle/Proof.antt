@@ -3,7 +3,7 @@ use mathlib.Core.Path.{_≡_, refl}
 use native.Mathlib.Omega.{arith}
 use native.Mathlib.Numerals.{add-one}
 use Rattle.reach.specs.Rows.{Sized, settled}
-use Rattle.reach.proofs.Bits.{settled-sized}
+use Rattle.reach.proofs.Lists.{settled-sized}
 use borrow.Author.Needs.{needs}
 use Rattle.reach.proofs.rows.settle.Statement.{statement}
 use Rattle.reach.proofs.rows.settle.Tie as tie
@@ -24,7 +24,7 @@ settle-spec =
     (λ c. (omega arith, (c .before .before .pre .0, refl)))
     (λ c. search needs)
     (λ c. search needs)
-    (λ c κs. (c .before .before .before .loop .inv .1 .0, c .before .before .before .before .before .before .pre .1 .1 _))
+    (λ c κs. c .before .before .before .loop .inv .1 .0)
     (λ c. search needs)
     (λ c. omega arith)
     (λ c. let l = c .before .before .before .before .before .before .loop in let e = rw (l .inv .1 .1) at (c .before .before .store .ensures) in (omega arith, (rw e (settled-sized _ _ _ (suc (l .i)) (c .before .before .before .before .before .before .before .before .before .pre .0)), rw add-one e)))

@@ -1,22 +1,22 @@
 use Prim.Native.Nat.{_≤_, _-_}
-use mathlib.Core.Path.{refl, sym, _∙_}
+use mathlib.Core.Path.{refl, ap, sym, _∙_}
 use native.Mathlib.Omega.{arith}
 use lib.ListN.{length}
+use Rattle.strip.specs.declared.shape.Shape.{Shape}
 use Rattle.strip.proofs.Read.{Turn, turn, halt}
-use Rattle.reach.proofs.Pass.{Passing, passing-begin, passing-stop, passing-done, passing-room, passing-step}
-use Rattle.reach.proofs.Bits.{zeros}
+use Rattle.reach.proofs.Pass.{Passing, passing-begin, passing-stop, passing-refused, passing-done, passing-room, passing-step, refused-run}
 use borrow.Author.Needs.{needs}
 use Rattle.reach.proofs.walk.pass.Statement.{statement}
 use Rattle.reach.proofs.walk.pass.Tie as tie
 
 abbrev Inv-loop : tie.InvT-loop
-Inv-loop run rows₀ stored₀ s₀ at₀ rows stored s at = (at ≤ length run) × Passing run at rows stored s
+Inv-loop run rows₀ stored₀ s₀ g₀ at₀ rows stored s g at = (at ≤ length run) × Passing run at rows stored s g
 
 abbrev μ-loop : tie.MeasureT-loop
-μ-loop run rows₀ stored₀ s₀ at₀ rows stored s at = length run - at
+μ-loop run rows₀ stored₀ s₀ g₀ at₀ rows stored s g at = length run - at
 
 -- what the entry that a turn has read says of the run
-turned : (c : tie.After-e Inv-loop μ-loop) → Turn (c .before .before .before .before .before .before .before .before .before .args .run .now) (c .before .before .before .before .before .loop .at) (c .e .given .0 .0) (c .e .given .0 .1 .0)
+turned : (c : tie.After-e Inv-loop μ-loop) → Turn (c .before .before .before .before .before .before .before .before .before .before .args .run .now) (c .before .before .before .before .before .loop .at) (c .e .given .0 .0) (c .e .given .0 .1 .0)
 turned c = turn _ _ _ (c .before .before .before .before .loop-test .taken) (c .before .before .read-entry .ensures) _ _ (c .e .given .1)
 
 pub pass-spec : {M : Type 1} → statement M
@@ -26,19 +26,23 @@ pass-spec =
     Inv-loop
     μ-loop
     (λ c κs. search needs)
-    (λ c. let start = c .before .before .before in (omega arith, rw (c .none .ensures) (passing-begin _ _ _ (start .pre .0) refl (λ i. rw (zeros 64 i) (omega arith)) (start .pre .1))))
+    (λ c κs. search needs)
+    (λ c. (omega arith, rw (c .new .ensures, c .before .none .ensures) (passing-begin _ _ _ (c .before .before .before .before .pre .0) (c .before .before .before .before .pre .1) refl)))
     (λ c. search needs)
     (λ c. search needs)
     (λ c. search needs)
     (λ c κs. search needs)
     (λ c. search needs)
     (λ c. search needs)
+    (λ c. c .before .before .before .before .before .loop .inv .1 .kept .sized ∙ sym (c .before .before .before .before .before .before .before .before .before .before .pre .0))
+    (λ c. refused-run _ _ (passing-stop _ _ _ _ _ _ (c .before .before .before .before .before .loop .inv .1) (halt _ _ _ (c .before .before .before .before .loop-test .taken) (c .before .before .read-entry .ensures) (c .enum-told .given .1))))
+    (λ c κs. (c .before .before .before .before .before .before .loop .inv .1 .ready, turned (c .before) .body))
+    (λ c. c .before .before .before .before .before .before .before .before .loop .inv .1 .kept .sized ∙ sym (c .before .before .before .before .before .before .before .before .before .before .before .before .before .pre .0))
+    (λ c. refused-run _ _ (passing-refused _ _ _ _ _ _ (c .before .before .before .before .before .before .before .before .loop .inv .1) _ _ (turned (c .before .before .before)) (ap (λ (g : Shape). g .left) (sym (c .before .step .ensures)) ∙ c .if1 .taken)))
     (λ c. search needs)
-    (λ c. absurd (passing-stop _ _ _ _ _ (c .before .before .before .before .before .loop .inv .1) (halt _ _ _ (c .before .before .before .before .loop-test .taken) (c .before .before .read-entry .ensures) (c .enum-told .given .1))))
-    (λ c. search needs)
-    (λ c κs. let p = c .before .before .before .before .before .before .before .before .loop .inv .1 in (p .kept, passing-room _ _ _ _ _ p _ _ (turned (c .before .before .before))))
-    (λ c. omega (arith, turned (c .before .before .before .before .before .before .before) .inside))
-    (λ c. omega (arith, turned (c .before .before .before .before .before .before .before) .inside, turned (c .before .before .before .before .before .before .before) .forward))
-    (λ c. (turned (c .before .before .before .before .before .before .before) .inside, passing-step _ _ _ _ _ (c .before .before .before .before .before .before .before .before .before .before .before .before .loop .inv .1) _ _ (turned (c .before .before .before .before .before .before .before)) _ _ _ (c .before .before .before .step .ensures)))
-    (λ c. c .before .loop .inv .1 .kept .sized ∙ sym (c .before .before .before .before .before .pre .0 .sized))
-    (λ c. passing-done _ _ _ _ _ (c .before .loop .inv .1) (c .loop-test .left)))
+    (λ c κs. (c .before .before .before .before .before .before .before .before .before .before .loop .inv .1 .kept, passing-room _ _ _ _ _ _ (c .before .before .before .before .before .before .before .before .before .before .loop .inv .1)))
+    (λ c. omega (arith, turned (c .before .before .before .before .before .before .before .before .before) .inside))
+    (λ c. omega (arith, turned (c .before .before .before .before .before .before .before .before .before) .inside, turned (c .before .before .before .before .before .before .before .before .before) .forward))
+    (λ c. (turned (c .before .before .before .before .before .before .before .before .before) .inside, passing-step _ _ _ _ _ _ (c .before .before .before .before .before .before .before .before .before .before .before .before .before .before .loop .inv .1) _ _ (turned (c .before .before .before .before .before .before .before .before .before)) _ _ _ (c .before .before .before .step2 .ensures) _ (c .before .before .before .before .before .before .before .step .ensures) (c .before .before .before .before .before .before .if1 .left)))
+    (λ c. c .before .loop .inv .1 .kept .sized ∙ sym (c .before .before .before .before .before .before .pre .0))
+    (λ c. passing-done _ _ _ _ _ _ (c .before .loop .inv .1) (c .loop-test .left)))

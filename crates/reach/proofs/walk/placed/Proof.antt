@@ -1,4 +1,3 @@
-use native.Mathlib.Omega.{arith}
 use borrow.Author.Tests.{lt-ltb, le-ltb}
 use Rattle.reach.specs.Rows.{placed}
 use borrow.Author.Needs.{needs}
@@ -11,5 +10,5 @@ placed-spec =
     tie.close
     (tie.spec
     (λ c. search needs)
-    (λ c. (rw (lt-ltb _ _ (c .if1 .taken)), omega arith))
-    (λ c. (rw (le-ltb _ _ (c .if1 .left)), omega arith)))
+    (λ c. rw (lt-ltb _ _ (c .if1 .taken)))
+    (λ c. rw (le-ltb _ _ (c .if1 .left))))

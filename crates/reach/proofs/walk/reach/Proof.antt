@@ -11,12 +11,9 @@ pub reach-spec : {M : Type 1} → statement M
 reach-spec =
     tie.close
     (tie.spec
-    (λ c κs. search needs)
     (λ c. search needs)
-    (λ c κs. (length-replicate {A = ℕ} 1495 0, zeros 1495))
+    (λ c κs. (length-replicate {A = ℕ} 1500 0, zeros 1500))
     (λ c. search needs)
-    (λ c κs. (c .before .before .begin .ensures, sym (c .before .before .before .before .before .shape-ok .ensures) ∙ c .before .before .before .before .if1 .taken))
-    (λ c. search needs)
-    (λ c κs. search needs)
-    (λ c. c .before .answer .ensures ∙ answered _ _ (record { regs = search needs; preds = search needs; flags = search needs; slots = search needs }) (sym (c .before .before .before .before .before .before .before .before .before .before .shape-ok .ensures) ∙ c .before .before .before .before .before .before .before .before .before .if1 .taken) _ (c .before .before .before .before .pass .ensures))
-    (λ c. refused _ _ (sym (c .before .shape-ok .ensures) ∙ c .if1 .left)))
+    (λ c κs. c .before .before .before .pass .ensures .holds (c .before .if1 .taken) .sized)
+    (λ c. let p = c .before .before .before .before .before .pass .ensures in let ok = c .before .before .before .if1 .taken in c .before .answer .ensures ∙ answered _ _ (record { regs = search needs; preds = search needs; flags = search needs; slots = search needs }) (sym (p .shape) ∙ ok) _ (p .holds ok))
+    (λ c. refused _ _ (sym (c .before .before .pass .ensures .shape) ∙ c .if1 .left)))

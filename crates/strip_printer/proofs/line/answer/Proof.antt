@@ -1,5 +1,5 @@
 use native.Mathlib.Omega.{arith}
-use Rattle.strip_printer.proofs.Text.{written, strip-answer, refused-answer}
+use Rattle.strip_printer.proofs.Text.{written-is, strip-answer, refused-answer}
 use borrow.Author.Needs.{needs}
 use Rattle.strip_printer.proofs.line.answer.Statement.{statement}
 use Rattle.strip_printer.proofs.line.answer.Tie as tie
@@ -9,7 +9,7 @@ answer-spec =
     tie.close
     (tie.spec
     (λ c. search needs)
-    (λ c κs. let s = c .before .before .before .before .before .before in let w = written (s .args .o) (s .args .room .now) _ (c .before .before .o .given .1) in (rw w at (s .pre .0), omega (arith, w, s .pre .1, s .pre .2)))
+    (λ c κs. let s = c .before .before .before .before .before .before in let w = written-is (s .args .o) (s .args .room .now) _ (c .before .before .o .given .1) in (rw w at (s .pre .0), omega (arith, w, s .pre .1, s .pre .2)))
     (λ c. search needs)
     (λ c κs. search needs)
     (λ c. search needs)

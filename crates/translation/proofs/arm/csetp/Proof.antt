@@ -1,4 +1,3 @@
-use borrow.Author.Needs.{needs}
 use Rattle.translation.specs.Arms.{csetp}
 use Rattle.translation.proofs.Follow.{by-call, by-ret}
 use Rattle.translation.proofs.arm.csetp.Statement.{statement}
@@ -9,5 +8,5 @@ unfolding csetp
 csetp-spec =
     tie.close
     (tie.spec
-    (λ c κs. tt) (λ c. search needs) (λ c κs. tt) (λ c κs. tt) (λ c κs. tt)
-    (λ c. let c2 = c .before .before in let c4 = c2 .before .before in let c5 = c4 .before in rw (← c5 .bits .ensures .0) (by-call (c4 .cc-test .ensures) (by-call (c2 .p-39 .ensures) (by-call (c .setp-both .ensures) by-ret)))))
+    (λ c κs. tt) (λ c κs. tt) (λ c κs. tt) (λ c κs. tt)
+    (λ c. let c2 = c .before .before in let c4 = c2 .before .before in let c5 = c4 .before in rw (← c5 .bits8 .ensures) (by-call (c4 .cc-test .ensures) (by-call (c2 .p-39 .ensures) (by-call (c .setp-both .ensures) by-ret)))))

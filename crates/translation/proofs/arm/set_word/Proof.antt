@@ -1,4 +1,3 @@
-use borrow.Author.Needs.{needs}
 use Rattle.translation.specs.Arms.{setWord}
 use Rattle.translation.proofs.Follow.{by-call, by-ret}
 use Rattle.translation.proofs.arm.set_word.Statement.{statement}
@@ -9,5 +8,5 @@ unfolding setWord
 set-word-spec =
     tie.close
     (tie.spec
-    (λ c κs. tt) (λ c. search needs) (λ c κs. tt) (λ c κs. tt)
-    (λ c. let c2 = c .before .before in let c3 = c2 .before in rw (← c3 .bits .ensures .0) (by-call (c2 .bool-op .ensures) (by-call (c .set-truth .ensures) by-ret))))
+    (λ c κs. tt) (λ c κs. tt) (λ c κs. tt)
+    (λ c. let c2 = c .before .before in let c3 = c2 .before in rw (← c3 .bits8 .ensures) (by-call (c2 .bool-op .ensures) (by-call (c .set-truth .ensures) by-ret))))

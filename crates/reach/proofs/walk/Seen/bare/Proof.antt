@@ -4,7 +4,7 @@ use Prim.Native.Nat.{ℕ}
 use native.Mathlib.Omega.{arith}
 use borrow.Author.Tests.{eq-eqb, ne-eqb}
 use Rattle.reach.specs.Rows.{wipeRow, rowsAfter, storedAfter, seenAfter}
-use Rattle.reach.proofs.Bits.{settled-sized}
+use Rattle.reach.proofs.Lists.{settled-sized}
 use borrow.Author.Needs.{needs}
 use Rattle.reach.proofs.walk.Seen.bare.Statement.{statement}
 use Rattle.reach.proofs.walk.Seen.bare.Tie as tie
@@ -14,7 +14,7 @@ unfolding rowsAfter storedAfter seenAfter
 bare-spec =
     tie.close
     (tie.spec
-    (λ c κs. let k = c .before .before .before .before .pre in (k .0 .sized, (omega (arith, k .0 .room), k .0 .cells)))
+    (λ c κs. let k = c .before .before .before .before .pre in (k .0 .sized, omega (arith, k .0 .room)))
     (λ c κs. (rw (c .before .before .before .settle .ensures) (settled-sized _ _ _ _ (c .before .before .before .before .before .before .before .before .pre .0 .sized)), omega arith))
     (λ c κs. search needs)
     (λ c. search needs)

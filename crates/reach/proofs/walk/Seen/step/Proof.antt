@@ -1,5 +1,4 @@
 use mathlib.Core.Path.{refl}
-use native.Mathlib.Omega.{arith}
 use Rattle.reach.specs.Rows.{rowsAfter, storedAfter, seenAfter}
 use borrow.Author.Needs.{needs}
 use Rattle.reach.proofs.walk.Seen.step.Statement.{statement}
@@ -19,9 +18,9 @@ step-spec =
     (λ c. rw (c .enum-told .given .1) (record { rows = refl; stored = refl; seen = refl }))
     (λ c. search needs)
     (λ c κs. search needs)
-    (λ c κs. (c .before .before .before .before .before .before .before .pre .0 .sized, (omega arith, c .load-place .ensures .1)))
+    (λ c κs. c .before .before .before .before .before .before .before .pre .0 .sized)
     (λ c. search needs)
-    (λ c. rw (c .before .before .before .before .before .before .e2 .given .1) (record { rows = rw (← c .before .before .before .load-place .ensures .0) (c .before .before .join .ensures); stored = refl; seen = refl }))
+    (λ c. rw (c .before .before .before .before .before .before .e2 .given .1) (record { rows = rw (← c .before .before .before .load-place .ensures) (c .before .before .load .ensures); stored = refl; seen = refl }))
     (λ c. search needs)
     (λ c κs. search needs)
     (λ c. search needs)

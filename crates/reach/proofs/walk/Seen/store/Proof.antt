@@ -14,4 +14,4 @@ store-spec =
     (λ c. search needs)
     (λ c. search needs)
     (λ c. search needs)
-    (λ c. λ t a. record { rows = refl; stored = rw (c .store-place .ensures .0); seen = refl }))
+    (λ c. λ t a. record { rows = refl; stored = rw (c .store-place .ensures); seen = refl }))

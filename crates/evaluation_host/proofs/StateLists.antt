@@ -1,0 +1,52 @@
+-- A state in two lists, and what `mehkura_evaluate` answers case by case.
+use mathlib.Core.Path.{_≡_, refl}
+use mathlib.Core.List.{List, [], _++_, map}
+use mathlib.Core.Bool.{Bool}
+use Prim.Native.Nat.{ℕ}
+use native.Mathlib.Omega.{arith}
+use lib.ListN.{length}
+use lib.Seq.{sets}
+use Rattle.evaluation.specs.declared.state.State.{State}
+use Rattle.evaluation.specs.declared.machine.Evaluated.{Evaluated}
+use Rattle.evaluation.specs.declared.machine.Outcome.the-variants.{Done, Refused}
+use Rattle.evaluation.specs.declared.machine.Refusal.{Refusal}
+use Rattle.evaluation.specs.Machine.{evaluated, numberOf, refusalNumber}
+use borrow.Author.Tests.{eq-eqb, ne-eqb}
+use Rattle.truth_bytes.specs.Truths.{bit, truthsAt}
+use Rattle.evaluation_host.specs.States.{stateIn, truthsOf, answer, answerOf, evaluateAnswer}
+use Rattle.truth_bytes.proofs.Front.{behind, whole}
+
+-- ---- a state in two lists
+pub state-read : {regs : List ℕ} {preds flags : List Bool} (rs ts : List ℕ) → regs ≡ rs → preds ≡ truthsAt 7 0 ts → flags ≡ truthsAt 4 7 ts
+    → record { regs = regs; preds = preds; flags = flags } ≡ stateIn rs ts
+unfolding stateIn
+state-read rs ts p q r = rw (p, q, r)
+
+pub truths-written : {ts₁ ts₂ : List ℕ} (s : State) (ts : List ℕ) → length (s .preds) ≡ 7 → length (s .flags) ≡ 4 → length ts ≡ 11
+    → ts₁ ≡ sets ts 0 (map bit (s .preds)) → ts₂ ≡ sets ts₁ 7 (map bit (s .flags)) → ts₂ ≡ truthsOf s
+unfolding truthsOf
+truths-written {ts₁} s ts p f h e₁ e₂ =
+    whole (s .preds ++ s .flags) 11 (behind ts₁ (s .preds) (s .flags) 7 4 11 f (omega arith) (behind ts [] (s .preds) 0 7 11 p (omega arith) (refl, h) e₁) e₂)
+
+-- ---- the answer
+module _ (run rs ts cs : List ℕ) where
+  pub wrong-registers : (length rs ≡ 255 → ⊥) → answer 7 rs ts ≡ evaluateAnswer run rs ts cs
+  unfolding evaluateAnswer
+  wrong-registers h = rw (ne-eqb (length rs) 255 h)
+
+  pub wrong-truths : length rs ≡ 255 → (length ts ≡ 11 → ⊥) → answer 7 rs ts ≡ evaluateAnswer run rs ts cs
+  unfolding evaluateAnswer
+  wrong-truths e h = rw (eq-eqb (length rs) 255 e, ne-eqb (length ts) 11 h)
+
+  pub ran : {s : State} {r : Evaluated} → length rs ≡ 255 → length ts ≡ 11 → s ≡ stateIn rs ts → r ≡ evaluated run s cs → answerOf r rs ts ≡ evaluateAnswer run rs ts cs
+  unfolding evaluateAnswer
+  ran e h p q = rw (eq-eqb (length rs) 255 e, eq-eqb (length ts) 11 h, ← p, ← q)
+
+module _ (r : Evaluated) (rs ts : List ℕ) where
+  pub done : {rs' ts' : List ℕ} → r .outcome ≡ Done → rs' ≡ r .state .regs → ts' ≡ truthsOf (r .state) → answer 0 rs' ts' ≡ answerOf r rs ts
+  unfolding answerOf numberOf
+  done o p q = rw (o, p, q)
+
+  pub refused : {n : ℕ} {f : Refusal} → r .outcome ≡ Refused f → n ≡ refusalNumber f → answer n rs ts ≡ answerOf r rs ts
+  unfolding answerOf numberOf
+  refused o p = rw (o, p)

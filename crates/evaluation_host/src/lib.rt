@@ -1,0 +1,80 @@
+// Evaluation with C linkage, on states in two lists. A library of its own: a second caller of the reader would make it slower (docs/DECISIONS.md).
+ghost use mathlib.Core.Path.{_≡_};
+ghost use lib.ListN.{length};
+ghost use Rattle.evaluation_host.specs.States.{stateIn, truthsOf, answer, evaluateAnswer};
+use evaluation::Outcome;
+use evaluation::State;
+use truth_bytes::read_truths;
+use truth_bytes::write_truths;
+
+// Words, one list over another.
+fn copy_words(from: &[u32], to: &mut [u32])
+    requires { ⌜ length (now from) ≡ length (now to) ⌝ }
+    ensures { λ _. ⌜ now (to .exit) ≡ now (from .entry) ⌝ }
+{
+    let mut i = 0;
+    while i < to.len() {
+        to[i] = from[i];
+        i += 1;
+    }
+}
+
+// The state that two lists hold.
+fn state_in(registers: &[u32], truths: &[u8]) -> State
+    requires { ⌜ (length (now registers) ≡ 255) × (length (now truths) ≡ 11) ⌝ }
+    ensures { λ r. ⌜ r ≡ stateIn (now (registers .entry)) (now (truths .entry)) ⌝ }
+{
+    let mut regs = [0u32; 255];
+    let mut preds = [false; 7];
+    let mut flags = [false; 4];
+    copy_words(registers, &mut regs);
+    read_truths(truths, 0, &mut preds);
+    read_truths(truths, 7, &mut flags);
+    State {
+        regs: regs,
+        preds: preds,
+        flags: flags,
+    }
+}
+
+// A state into two lists.
+fn state_out(state: State, registers: &mut [u32], truths: &mut [u8])
+    requires { ⌜ (length (now registers) ≡ 255) × (length (now truths) ≡ 11) ⌝ }
+    ensures { λ _. ⌜ (now (registers .exit) ≡ state .regs) × (now (truths .exit) ≡ truthsOf state) ⌝ }
+{
+    let regs = state.regs;
+    let preds = state.preds;
+    let flags = state.flags;
+    copy_words(&regs, registers);
+    write_truths(&preds, truths, 0);
+    write_truths(&flags, truths, 7);
+}
+
+// A run from a state, in place: 255 registers, and 11 bytes for the 7 predicates and the flags Z, S, C, O (nonzero is true, answered as 1).
+// 0 where the run was evaluated; 7, 8 or 9 where it was refused, and 7 for a wrong length; a refusal leaves registers and truths as they were.
+#[no_mangle]
+pub extern "C" fn mehkura_evaluate(
+    run: &[u8],
+    registers: &mut [u32],
+    truths: &mut [u8],
+    constants: &[u32],
+) -> u32
+    ensures { λ r. ⌜ answer r (now (registers .exit)) (now (truths .exit)) ≡ evaluateAnswer (now (run .entry)) (now (registers .entry)) (now (truths .entry)) (now (constants .entry)) ⌝ }
+{
+    if registers.len() != 255 {
+        return 7;
+    }
+    if truths.len() != 11 {
+        return 7;
+    }
+    let r = evaluation::evaluate(run, state_in(registers, truths), constants);
+    let o = r.outcome;
+    let state = r.state;
+    match o {
+        Outcome::Done => {
+            state_out(state, registers, truths);
+            0
+        }
+        Outcome::Refused(f) => evaluation::refusal_number(f),
+    }
+}

@@ -1,0 +1,40 @@
+-- Cells as the exported functions take them, 298 bytes, and what a reach answers there.
+use Prim.Native.Nat.{ℕ}
+use mathlib.Core.Bool.{cond}
+use mathlib.Core.List.{List, _++_, map}
+use lib.ListN.{length}
+use lib.Dec.{eqb}
+use Rattle.reach.specs.declared.cells.Cells.{Cells}
+use Rattle.reach.specs.declared.cells.Outcome.{Outcome}
+use Rattle.reach.specs.declared.cells.Outcome.the-variants.{Done, BadShape}
+use Rattle.reach.specs.declared.cells.Reached.{Reached}
+use Rattle.reach.specs.Reach.{reached}
+use Rattle.truth_bytes.specs.Truths.{bit, truthsAt}
+
+-- the cells that bytes list: registers, predicates, flags, slots
+unfoldable pub cellsIn : List ℕ → Cells
+cellsIn bytes = record { regs = truthsAt 255 0 bytes; preds = truthsAt 7 255 bytes; flags = truthsAt 4 262 bytes; slots = truthsAt 32 266 bytes }
+
+-- and the bytes of cells
+unfoldable pub bytesOf : Cells → List ℕ
+bytesOf c = map bit (c .regs ++ c .preds ++ c .flags ++ c .slots)
+
+-- the number that is returned, and what the bytes are then
+pub record Answer : Type 0 where
+  pub number : ℕ
+  pub cells : List ℕ
+
+abbrev pub answer : ℕ → List ℕ → Answer
+answer n bytes = record { number = n; cells = bytes }
+
+-- a run that is not in order leaves the bytes as they were
+unfoldable pub answerOf : Outcome → Cells → List ℕ → Answer
+answerOf Done c bytes = answer 0 (bytesOf c)
+answerOf BadShape c bytes = answer 7 bytes
+
+abbrev pub given : Reached → List ℕ → Answer
+given r bytes = answerOf (r .outcome) (r .cells) bytes
+
+-- bytes of another length list no cells
+unfoldable pub reachAnswer : List ℕ → List ℕ → Answer
+reachAnswer run bytes = cond (eqb (length bytes) 298) (given (reached run (cellsIn bytes)) bytes) (answer 7 bytes)

@@ -1,0 +1,25 @@
+use Prim.Native.Nat.{_-_, _≤_}
+use native.Mathlib.Omega.{arith}
+use borrow.Author.Needs.{needs}
+use Rattle.works.proofs.counts.Statement.{statement}
+use Rattle.works.proofs.counts.Tie as tie
+
+abbrev Inv-loop : tie.InvT-loop
+Inv-loop run i₀ i = i ≤ 5
+
+abbrev μ-loop : tie.MeasureT-loop
+μ-loop run i₀ i = 5 - i
+
+pub counts-spec : {M : Type 1} → statement M
+counts-spec =
+    tie.close
+    (tie.spec Inv-loop μ-loop
+    (λ c. omega arith)
+    (λ c. search needs)
+    (λ c. search needs)
+    (λ c κs. search needs)
+    (λ c. search needs)
+    (λ c. omega arith)
+    (λ c. omega arith)
+    (λ c. omega arith)
+    (λ c. search needs))

@@ -1,0 +1,60 @@
+/* Mehkura for C and C++: translation of a record, reach and evaluation of a run.
+ *
+ * mehkura_translate and mehkura_reach are in libhost.a, mehkura_evaluate is in libevaluation_host.a; `rt staticlib NAME` proves and writes
+ * target/staticlib/libNAME.a. Lists go as a pointer and a length. No pointer may be null, for a list of length 0 either, and lists that one call
+ * gets must not overlap. No function keeps a pointer, allocates or touches anything else; all may be called from several threads at once.
+ *
+ * Each answers a number of enum mehkura_answer. A refused call leaves everything that it was lent as it was, byte for byte.
+ */
+#ifndef MEHKURA_H
+#define MEHKURA_H
+
+#include <stddef.h>
+#include <stdint.h>
+
+enum mehkura_answer {
+    MEHKURA_ACCEPTED = 0,
+    MEHKURA_BAD_LENGTH = 1,      /* the record is not 18 bytes, or the marks are not 128 */
+    MEHKURA_UNKNOWN_KIND = 2,    /* not one of the thirty */
+    MEHKURA_UNKNOWN_FORM = 3,    /* above 2 */
+    MEHKURA_LANE_MOV = 4,        /* mov with a lane mask */
+    MEHKURA_HALF_AT_BYTE_3 = 5,  /* i2i of a half from byte 3 on */
+    MEHKURA_NO_ROOM = 6,         /* the strip is longer than the room */
+    MEHKURA_BAD_SHAPE = 7,       /* the run is not in order, or a list of cells or of a state has another length */
+    MEHKURA_UNDEFINED_VALUE = 8, /* an undefined value reaches a store, an open or an address */
+    MEHKURA_NO_CONSTANT = 9      /* no constant is lent at an address */
+};
+
+/* Lengths of lists: a record, room for any strip, the use marks (32 words, little-endian), a state, cells. */
+enum {
+    MEHKURA_RECORD = 18,
+    MEHKURA_ANY_STRIP = 255,
+    MEHKURA_MARKS = 128,
+    MEHKURA_REGISTERS = 255,
+    MEHKURA_TRUTHS = 11, /* the predicates 0 to 6, then the flags Z, S, C, O */
+    MEHKURA_CELLS = 298  /* the registers, then predicates, flags and 32 constant slots from these places on: */
+};
+enum { MEHKURA_CELL_PREDICATE = 255, MEHKURA_CELL_FLAG = 262, MEHKURA_CELL_SLOT = 266 };
+
+#ifdef __cplusplus
+extern "C" {
+#endif
+
+/* Translates a record: its strip goes to the start of out, the strip's length to *written, and the use marks are raised. What lies in out behind
+ * the strip stays as it is. Strips one behind another are a run. Answers 0, or 1 to 6. */
+uint32_t mehkura_translate(const uint8_t *record, size_t record_len, uint8_t *marks, size_t marks_len, uint8_t *out, size_t out_len, size_t *written);
+
+/* Which cells at the start of a run can matter to the listed ones at its end, in place: a byte for each cell, listed where it is not 0, answered as
+ * 0 or 1. Answers 0 or 7. */
+uint32_t mehkura_reach(const uint8_t *run, size_t run_len, uint8_t *cells, size_t cells_len);
+
+/* Evaluates a run from a state, in place: the registers, and a byte for each truth, true where it is not 0, answered as 0 or 1. Word w of constant
+ * slot s is element s * 16384 + w of the constants. Answers 0, or 7, 8, 9. */
+uint32_t mehkura_evaluate(const uint8_t *run, size_t run_len, uint32_t *registers, size_t registers_len, uint8_t *truths, size_t truths_len,
+                          const uint32_t *constants, size_t constants_len);
+
+#ifdef __cplusplus
+}
+#endif
+
+#endif

@@ -1,0 +1,262 @@
+// What a viewer does with Mehkura: translates the samples into one room, asks what can matter, evaluates the run, and tries every refusal.
+// Writes a line for each part, and ends with 1 at the first thing that is not as it must be. One argument: the folder of the samples.
+#include "mehkura.h"
+
+#include <array>
+#include <cstdio>
+#include <cstdlib>
+#include <fstream>
+#include <iterator>
+#include <string>
+#include <vector>
+
+namespace {
+
+using Bytes = std::vector<uint8_t>;
+using Marks = std::array<uint8_t, MEHKURA_MARKS>;
+using Cells = std::array<uint8_t, MEHKURA_CELLS>;
+
+constexpr uint8_t unused = 0xa5;
+int checks = 0;
+
+void check(bool holds, const std::string &what) {
+    ++checks;
+    if (!holds) {
+        std::fprintf(stderr, "viewer: not so: %s\n", what.c_str());
+        std::exit(1);
+    }
+}
+
+// A record: kind, form, opcode value, word, little-endian.
+Bytes record(uint8_t kind, uint8_t form, uint64_t value, uint64_t word) {
+    Bytes bytes{kind, form};
+    for (uint64_t n : {value, word})
+        for (int i = 0; i < 8; ++i) bytes.push_back(static_cast<uint8_t>(n >> (8 * i)));
+    return bytes;
+}
+
+// Fields of a word. Guard 7 always holds.
+constexpr uint64_t guard(uint64_t predicate) { return predicate << 16; }
+constexpr uint64_t rd(uint64_t n) { return n; }
+constexpr uint64_t ra(uint64_t n) { return n << 8; }
+constexpr uint64_t rb(uint64_t n) { return n << 20; }
+
+// Strips of accepted records, one behind another, in a room of a fixed size.
+struct Room {
+    Bytes bytes;
+    size_t used = 0;
+    Marks marks{};
+
+    explicit Room(size_t size) : bytes(size, unused) {}
+
+    uint32_t add(const Bytes &r) {
+        size_t written = 0;
+        uint32_t number = mehkura_translate(r.data(), r.size(), marks.data(), marks.size(), bytes.data() + used, bytes.size() - used, &written);
+        used += written;
+        return number;
+    }
+};
+
+struct State {
+    std::array<uint32_t, MEHKURA_REGISTERS> registers{};
+    std::array<uint8_t, MEHKURA_TRUTHS> truths{};
+
+    uint32_t run(const Room &room, const std::vector<uint32_t> &constants = {0}) {
+        return mehkura_evaluate(room.bytes.data(), room.used, registers.data(), registers.size(), truths.data(), truths.size(), constants.data(),
+                                constants.size());
+    }
+};
+
+Bytes file(const std::string &name) {
+    std::ifstream in(name, std::ios::binary);
+    check(in.good(), "the file " + name + " can be read");
+    return Bytes(std::istreambuf_iterator<char>(in), {});
+}
+
+// A work's records, each behind the last strip.
+void add_work(Room &room, const std::string &name) {
+    const Bytes bytes = file(name);
+    check(!bytes.empty() && bytes.size() % MEHKURA_RECORD == 0, name + " has whole records");
+    for (auto at = bytes.begin(); at != bytes.end(); at += MEHKURA_RECORD)
+        check(room.add(Bytes(at, at + MEHKURA_RECORD)) == MEHKURA_ACCEPTED, name + " is translated");
+    for (size_t i = room.used; i < room.bytes.size(); ++i) check(room.bytes[i] == unused, "the room behind the strips is as it was");
+}
+
+Room work(const std::string &name) {
+    Room room(4096);
+    add_work(room, name);
+    return room;
+}
+
+// The numbers of the listed cells.
+std::vector<size_t> listed(const Cells &cells) {
+    std::vector<size_t> out;
+    for (size_t i = 0; i < cells.size(); ++i) {
+        check(cells[i] <= 1, "a cell is answered as 0 or 1");
+        if (cells[i]) out.push_back(i);
+    }
+    return out;
+}
+
+// The 64-bit count: the third step from fffffffd passes 2^32.
+void count(const std::string &samples) {
+    Room room = work(samples + "/count.bin");
+    State s;
+    s.registers[0] = 0xfffffffd;
+    for (uint64_t step = 1; step <= 5; ++step) {
+        check(s.run(room) == 0, "the count is evaluated");
+        uint64_t now = static_cast<uint64_t>(s.registers[1]) << 32 | s.registers[0];
+        check(now == 0xfffffffd + step, "the count goes up by one");
+    }
+    std::puts("count: five steps over 2^32");
+}
+
+// The packed byte: flags into its low half, the number in its high half stays.
+void conditions(const std::string &samples) {
+    Room room = work(samples + "/conditions.bin");
+    State s;
+    s.registers[0] = 0xffffffff;
+    s.registers[1] = 1;
+    s.registers[2] = 0x1234d678;
+    check(s.run(room) == 0, "the packing is evaluated");
+    check(s.registers[0] == 0, "the sum wraps");
+    // Z and C: bits 0 and 2 of the low half; the number d in the high half stays
+    check(s.registers[2] == 0x1234d578, "the number in the high half survives");
+    std::puts("conditions: the number in the high half survives");
+}
+
+// R1 = R2 + R3; @P0 mov R4, R1: asked R4, what matters is R2, R3, R4 and P0.
+void reach() {
+    Room room(512);
+    check(room.add(record(9, 0, 0, guard(7) | rd(1) | ra(2) | rb(3))) == 0, "iadd is translated");
+    check(room.add(record(1, 0, 0, guard(0) | rd(4) | rb(1))) == 0, "a guarded mov is translated");
+    Cells cells{};
+    cells[4] = 7;
+    check(mehkura_reach(room.bytes.data(), room.used, cells.data(), cells.size()) == 0, "reach answers");
+    check(listed(cells) == std::vector<size_t>{2, 3, 4, MEHKURA_CELL_PREDICATE}, "R2, R3, R4 and P0 can matter to R4");
+
+    // what is not listed does not matter
+    State a, b;
+    for (size_t i = 0; i < MEHKURA_REGISTERS; ++i) b.registers[i] = static_cast<uint32_t>(0x01010101 * i);
+    for (size_t i : {2, 3, 4}) a.registers[i] = b.registers[i];
+    a.truths[0] = b.truths[0] = 1;
+    b.truths[5] = 1;
+    check(a.run(room) == 0 && b.run(room) == 0, "both starts are evaluated");
+    check(a.registers[4] == b.registers[4], "both ends agree on R4");
+
+    // refused, and accepted: bytes stay, or become 0 and 1
+    Cells before = cells;
+    before[9] = 3;
+    cells = before;
+    uint8_t bad[] = {0};
+    check(mehkura_reach(bad, sizeof bad, cells.data(), cells.size()) == 7 && cells == before, "7 leaves the cells as they were");
+    check(mehkura_reach(room.bytes.data(), room.used, cells.data(), cells.size() - 1) == 7 && cells == before, "297 cells are refused");
+    check(mehkura_reach(room.bytes.data(), 0, cells.data(), cells.size()) == 0 && cells[9] == 1, "a run of no bytes keeps the list");
+    std::puts("reach: R2, R3, R4 and P0 for R4");
+}
+
+// All samples as one run: starts that agree on what reach lists agree at the end on the asked cell, and cells that no strip stores stay.
+void one_room(const std::string &samples) {
+    Room room(4096);
+    for (const char *name : {"count", "conditions", "two_records"}) add_work(room, samples + "/" + name + ".bin");
+    const size_t asked = 2;
+    Cells cells{};
+    cells[asked] = 1;
+    check(mehkura_reach(room.bytes.data(), room.used, cells.data(), cells.size()) == MEHKURA_ACCEPTED, "reach answers for all samples");
+    // R2 is packed with the flags of R0 + R1, where both have been counted up before; no flag or predicate of the start matters
+    check(listed(cells) == std::vector<size_t>{0, 1, 2}, "R0, R1 and R2 can matter to R2");
+    for (uint32_t seed = 1; seed <= 200; ++seed) {
+        State a, b;
+        for (size_t i = 0; i < MEHKURA_REGISTERS; ++i) {
+            a.registers[i] = static_cast<uint32_t>(0x9e3779b9u * (i + 1) * seed);
+            b.registers[i] = cells[i] ? a.registers[i] : ~a.registers[i];
+        }
+        for (size_t i = 0; i < MEHKURA_TRUTHS; ++i) {
+            a.truths[i] = (seed >> (i % 8)) & 1;
+            b.truths[i] = cells[MEHKURA_CELL_PREDICATE + i] ? a.truths[i] : !a.truths[i];
+        }
+        const State start = a;
+        check(a.run(room) == MEHKURA_ACCEPTED && b.run(room) == MEHKURA_ACCEPTED, "both starts are evaluated");
+        check(a.registers[asked] == b.registers[asked], "both ends agree on the asked cell");
+        for (size_t i = 0; i < MEHKURA_REGISTERS; ++i)
+            if (i > 2 && i != 5) check(a.registers[i] == start.registers[i], "a register that no strip stores stays");
+        for (size_t i = 0; i < 7; ++i) check(a.truths[i] == start.truths[i], "a predicate that no strip stores stays");
+    }
+    std::puts("one room: all samples as one run, 200 pairs of starts");
+}
+
+// Every refusal of the translation, with everything as it was behind it.
+void translations() {
+    const Bytes good = record(2, 2, 0, 0x0001234567870005);
+    auto refuses = [](const Bytes &r, size_t marks_len, size_t room_len, uint32_t number, const std::string &what) {
+        std::vector<uint8_t> marks(marks_len, 0x11), room(room_len, unused);
+        const auto marks_before = marks, room_before = room;
+        size_t written = 77;
+        uint8_t none = 0;
+        uint32_t answer = mehkura_translate(r.empty() ? &none : r.data(), r.size(), marks.empty() ? &none : marks.data(), marks.size(),
+                                            room.empty() ? &none : room.data(), room.size(), &written);
+        check(answer == number, what);
+        check(written == 77 && marks == marks_before && room == room_before, what + ": all as it was");
+    };
+    for (size_t n : {0, 1, 17, 19}) {
+        Bytes r = good;
+        r.resize(n);
+        refuses(r, 128, 256, 1, "1 for a record of " + std::to_string(n) + " bytes");
+    }
+    for (size_t n : {0, 127, 129}) refuses(good, n, 256, 1, "1 for marks of " + std::to_string(n) + " bytes");
+    for (uint8_t kind : {0, 31, 255}) refuses(record(kind, 9, 0, 0), 128, 256, 2, "2 for kind " + std::to_string(kind));
+    refuses(record(1, 3, 0xf0c8000000000000, 0), 128, 256, 3, "3 for form 3, before 4");
+    refuses(record(1, 0, 0xf0c8000000000000, 0), 128, 0, 4, "4 for the lane mov, before 6");
+    refuses(record(24, 0, 0, 1ull << 10 | 3ull << 41), 128, 256, 5, "5 for a half from byte 3 on");
+
+    Room exact(10);
+    check(exact.add(good) == 0 && exact.used == 10, "a room exactly full");
+    refuses(good, 128, 9, 6, "6 for a room one byte short");
+    refuses(good, 128, 0, 6, "6 for no room");
+
+    // a constant raises its slot's mark, little-endian, and no other
+    Room room(256);
+    check(room.add(record(1, 1, 0, guard(7) | rd(0) | 3ull << 20 | 2ull << 34)) == 0, "mov of a constant");
+    Marks marks{};
+    marks[8] = 16;
+    check(room.marks == marks, "word 3 of slot 2 needs 16 bytes");
+    std::puts("translations: refusals 1 to 6, a room exactly full");
+}
+
+// Every refusal of the evaluation, with the state as it was behind it.
+void evaluations() {
+    auto refuses = [](const Bytes &run, size_t registers, size_t truths, const std::vector<uint32_t> &constants, uint32_t number, const std::string &what) {
+        std::vector<uint32_t> r(registers, 0x5a5a5a5a);
+        std::vector<uint8_t> t(truths, 9);
+        const auto r_before = r;
+        const auto t_before = t;
+        check(mehkura_evaluate(run.data(), run.size(), r.data(), r.size(), t.data(), t.size(), constants.data(), constants.size()) == number, what);
+        check(r == r_before && t == t_before, what + ": the state as it was");
+    };
+    const Bytes end{0xff};
+    refuses({0}, 255, 11, {0}, 7, "7 for a run that is not in order");
+    refuses(end, 254, 11, {0}, 7, "7 for 254 registers");
+    refuses(end, 255, 12, {0}, 7, "7 for 12 truths");
+    // a store, then a word shifted by 32 that reaches a store
+    refuses({1, 32, 0, 0, 0, 7, 0, 0, 0, 43, 0, 0, 0, 0, 7, 1, 1, 0, 0xff}, 255, 11, {0}, 8, "8 for an undefined value");
+    Room room(256);
+    check(room.add(record(1, 1, 0, guard(7) | rd(0) | 3ull << 20)) == 0, "mov of a constant");
+    const Bytes run(room.bytes.begin(), room.bytes.begin() + static_cast<long>(room.used));
+    refuses(run, 255, 11, {1, 2, 3}, 9, "9 for a constant that is not lent");
+    State s;
+    check(s.run(room, {1, 2, 3, 4}) == 0 && s.registers[0] == 4, "the constant is lent");
+    std::puts("evaluations: refusals 7, 8 and 9");
+}
+
+} // namespace
+
+int main(int argc, char **argv) {
+    const std::string samples = argc > 1 ? argv[1] : "samples";
+    translations();
+    evaluations();
+    one_room(samples);
+    count(samples);
+    conditions(samples);
+    reach();
+    std::printf("%d checks, all hold\n", checks);
+}

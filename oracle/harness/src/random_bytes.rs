@@ -1,0 +1,388 @@
+//! Bytes of all sorts into each function of the library. Whatever they are, a function must come back with one of its
+//! numbers, write nowhere but where it was lent room, and leave everything as it was where it refuses.
+
+use std::sync::atomic::{AtomicU64, Ordering};
+use std::thread;
+
+use oracle::format::encode;
+use oracle::generate::random_record;
+use oracle::print::hex;
+use oracle::reach::CELLS;
+use oracle::record::RECORD_LEN;
+use oracle::rng::Rng;
+use oracle::starts::{ALL_WORDS, random_words};
+use oracle::strips::{TELLING_BYTES, damage, evaluation_strip, random_strip};
+
+use crate::ffi;
+use crate::pair::{MarkBytes, ROOM};
+use crate::runs::{translated_near, translated_strip};
+
+/// Wrong answers that are printed by a thread for each function.
+const SHOWN: u64 = 5;
+
+/// Calls of one job. Each job has its own random numbers, so that threads do not change them.
+const BATCH: u64 = 10_000;
+
+/// Strips to take and change.
+const STOCK: usize = 4096;
+
+/// The numbers that there are: 0 and 01's refusals.
+const NUMBERS: usize = 10;
+
+const MARKS: usize = size_of::<MarkBytes>();
+const REGISTERS: usize = 255;
+const TRUTHS: usize = 11;
+
+/// A function of the library.
+struct Function {
+    name: &'static str,
+    /// The numbers that it can answer. Each must be seen.
+    numbers: &'static [u32],
+    /// Makes one random call. The number, or what is wrong.
+    call: fn(&mut Caller) -> Result<u32, String>,
+}
+
+const FUNCTIONS: [Function; 4] = [
+    Function { name: "translate", numbers: &[0, 1, 2, 3, 4, 5, 6], call: |caller| caller.translate() },
+    Function { name: "shape", numbers: &[0, 7], call: |caller| caller.shape() },
+    Function { name: "evaluate", numbers: &[0, 7, 8, 9], call: |caller| caller.evaluate() },
+    Function { name: "reach", numbers: &[0, 7], call: |caller| caller.reach() },
+];
+
+/// What is made once, and only read.
+struct Stock {
+    /// Well-formed strips of all sorts.
+    strips: Vec<Vec<u8>>,
+    /// Constant words to lend.
+    words: Vec<u32>,
+}
+
+impl Stock {
+    fn new(seed: u64) -> Stock {
+        let mut rng = Rng::new(seed);
+        let strip = |rng: &mut Rng| match rng.below(4) {
+            0 => translated_strip(rng),
+            1 => translated_near(rng),
+            2 => encode(&random_strip(rng)),
+            _ => encode(&evaluation_strip(rng)),
+        };
+        Stock { strips: (0..STOCK).map(|_| strip(&mut rng)).collect(), words: random_words(&mut rng) }
+    }
+}
+
+/// A list that is lent: a part of a longer buffer. What stood in the whole buffer is kept, so that a write shows.
+#[derive(Default)]
+struct Lent<T> {
+    buffer: Vec<T>,
+    before: Vec<T>,
+    start: usize,
+    len: usize,
+}
+
+impl<T: Copy + PartialEq> Lent<T> {
+    /// Elements before and behind the list, and a few more before it, so that it begins anywhere.
+    const MARGIN: usize = 64;
+    const SHIFTS: usize = 16;
+
+    fn fill(&mut self, rng: &mut Rng, margin: T, list: impl IntoIterator<Item = T>) {
+        self.start = Self::MARGIN + rng.below(Self::SHIFTS);
+        self.before.clear();
+        self.before.resize(self.start, margin);
+        self.before.extend(list);
+        self.len = self.before.len() - self.start;
+        self.before.resize(self.start + self.len + Self::MARGIN, margin);
+        self.buffer.clone_from(&self.before);
+    }
+
+    fn list(&mut self) -> &mut [T] {
+        &mut self.buffer[self.start..self.start + self.len]
+    }
+
+    fn list_before(&self) -> &[T] {
+        &self.before[self.start..self.start + self.len]
+    }
+
+    /// Nothing is written at all.
+    fn is_kept(&self) -> bool {
+        self.buffer == self.before
+    }
+
+    /// The list has this length, and nothing is written beside it.
+    fn is_kept_around(&self, len: usize) -> bool {
+        self.len == len && self.is_kept_beside(len)
+    }
+
+    /// Nothing is written beside the first `written` elements of the list.
+    fn is_kept_beside(&self, written: usize) -> bool {
+        let end = self.start + written;
+        written <= self.len
+            && self.buffer[..self.start] == self.before[..self.start]
+            && self.buffer[end..] == self.before[end..]
+    }
+}
+
+/// Makes random calls.
+struct Caller<'a> {
+    rng: Rng,
+    stock: &'a Stock,
+    /// A record or a run.
+    input: Lent<u8>,
+    /// Marks, truths or cells.
+    bytes: Lent<u8>,
+    room: Lent<u8>,
+    written: Lent<usize>,
+    registers: Lent<u32>,
+}
+
+impl<'a> Caller<'a> {
+    fn new(seed: u64, stock: &'a Stock) -> Caller<'a> {
+        Caller {
+            rng: Rng::new(seed),
+            stock,
+            input: Lent::default(),
+            bytes: Lent::default(),
+            room: Lent::default(),
+            written: Lent::default(),
+            registers: Lent::default(),
+        }
+    }
+
+    /// A length: mostly the right one, else a neighbour, 0, or any up to `most`.
+    fn len(&mut self, right: usize, most: usize) -> usize {
+        match self.rng.below(64) {
+            0 => right + 1,
+            1 => right.saturating_sub(1),
+            2 => 0,
+            3 | 4 => self.rng.below(most + 1),
+            _ => right,
+        }
+    }
+
+    /// Bytes without any meaning: of every value, of those at the limits of the format, or of both.
+    fn plain_bytes(&mut self, len: usize) -> Vec<u8> {
+        let sort = self.rng.below(3);
+        let rng = &mut self.rng;
+        let mut byte = || match sort {
+            0 => rng.next_u64() as u8,
+            1 => rng.pick(&TELLING_BYTES),
+            _ if rng.one_in(2) => rng.next_u64() as u8,
+            _ => rng.pick(&TELLING_BYTES),
+        };
+        (0..len).map(|_| byte()).collect()
+    }
+
+    /// Bytes in place of a run: without meaning, or some strips of the stock, mostly with a few bytes changed.
+    fn fill_run(&mut self) {
+        let mut run = Vec::new();
+        if self.rng.one_in(4) {
+            let most = self.rng.pick(&[4, 16, 64, 400]);
+            let len = self.rng.below(most);
+            run = self.plain_bytes(len);
+        } else {
+            for _ in 0..self.rng.pick(&[0, 1, 1, 1, 1, 2, 3, 8]) {
+                run.extend_from_slice(&self.stock.strips[self.rng.below(STOCK)]);
+            }
+            for _ in 0..self.rng.below(4) {
+                damage(&mut self.rng, &mut run);
+            }
+        }
+        let margin = self.rng.next_u64() as u8;
+        self.input.fill(&mut self.rng, margin, run);
+    }
+
+    /// Bytes in place of a record: without meaning, or a record, at times with a few bytes changed.
+    fn fill_record(&mut self) {
+        let mut record;
+        if self.rng.one_in(3) {
+            let len = self.len(RECORD_LEN, 2 * RECORD_LEN);
+            record = self.plain_bytes(len);
+            // Few bytes are a kind and a form: at times the first two are small.
+            if self.rng.one_in(2) {
+                record.iter_mut().zip([32, 4]).for_each(|(byte, limit)| *byte %= limit);
+            }
+        } else {
+            record = random_record(&mut self.rng).to_bytes().to_vec();
+            if self.rng.one_in(4) {
+                damage(&mut self.rng, &mut record);
+            }
+        }
+        let margin = self.rng.next_u64() as u8;
+        self.input.fill(&mut self.rng, margin, record);
+    }
+
+    fn fill_bytes(&mut self, right: usize) {
+        let len = self.len(right, 3 * right);
+        let bytes = self.plain_bytes(len);
+        let margin = self.rng.next_u64() as u8;
+        self.bytes.fill(&mut self.rng, margin, bytes);
+    }
+
+    fn translate(&mut self) -> Result<u32, String> {
+        self.fill_record();
+        self.fill_bytes(MARKS);
+        let len = if self.rng.one_in(4) { self.rng.below(ROOM) } else { self.len(ROOM, 2 * ROOM) };
+        let any = self.rng.next_u64();
+        self.room.fill(&mut self.rng, any as u8, std::iter::repeat_n((any >> 8) as u8, len));
+        self.written.fill(&mut self.rng, any as usize, [!any as usize]);
+
+        let written = &mut self.written.list()[0];
+        let number = ffi::translate(self.input.list(), self.bytes.list(), self.room.list(), written);
+        let len = *written;
+        let untouched = self.input.is_kept()
+            && if number == 0 {
+                self.bytes.is_kept_around(MARKS) && self.room.is_kept_beside(len) && self.written.is_kept_around(1)
+            } else {
+                self.bytes.is_kept() && self.room.is_kept() && self.written.is_kept()
+            };
+        self.verdict(number, untouched)
+    }
+
+    fn shape(&mut self) -> Result<u32, String> {
+        self.fill_run();
+        let number = ffi::shape(self.input.list());
+        self.verdict(number, self.input.is_kept())
+    }
+
+    fn evaluate(&mut self) -> Result<u32, String> {
+        self.fill_run();
+        self.fill_bytes(TRUTHS);
+        let len = self.len(REGISTERS, 2 * REGISTERS);
+        let any = self.rng.next_u64() as u32;
+        let at = self.rng.below(ALL_WORDS - len);
+        self.registers.fill(&mut self.rng, any, self.stock.words[at..at + len].iter().copied());
+        let some = self.rng.below(ALL_WORDS + 1);
+        let lent = self.rng.pick(&[0, 1, some, some, ALL_WORDS, ALL_WORDS, self.stock.words.len()]);
+
+        let constants = &self.stock.words[..lent];
+        let number = ffi::evaluate_lists(self.input.list(), self.registers.list(), self.bytes.list(), constants);
+        let untouched = self.input.is_kept()
+            && if number == 0 {
+                self.registers.is_kept_around(REGISTERS)
+                    && self.bytes.is_kept_around(TRUTHS)
+                    && self.bytes.list().iter().all(|&truth| truth <= 1)
+            } else {
+                self.registers.is_kept() && self.bytes.is_kept()
+            };
+        self.verdict(number, untouched)
+    }
+
+    fn reach(&mut self) -> Result<u32, String> {
+        self.fill_run();
+        self.fill_bytes(CELLS);
+        let number = ffi::reach(self.input.list(), self.bytes.list());
+        let untouched = self.input.is_kept()
+            && if number == 0 {
+                self.bytes.is_kept_around(CELLS) && self.bytes.list().iter().all(|&cell| cell <= 1)
+            } else {
+                self.bytes.is_kept()
+            };
+        self.verdict(number, untouched)
+    }
+
+    /// The number, if nothing was written that should not be.
+    fn verdict(&self, number: u32, untouched: bool) -> Result<u32, String> {
+        if untouched {
+            return Ok(number);
+        }
+        Err(format!("{number}, with a wrong length or a wrong write; {}", hex(self.input.list_before())))
+    }
+}
+
+/// Counts of one function.
+#[derive(Clone, Copy, Default)]
+struct Tally {
+    numbers: [u64; NUMBERS],
+    wrong: u64,
+}
+
+impl Tally {
+    fn add(&mut self, other: &Tally) {
+        self.wrong += other.wrong;
+        for (to, from) in self.numbers.iter_mut().zip(other.numbers) {
+            *to += from;
+        }
+    }
+
+    fn call(&mut self, function: &Function, caller: &mut Caller) {
+        let answer = (function.call)(caller).and_then(|number| {
+            let known = function.numbers.contains(&number);
+            known.then_some(number).ok_or_else(|| format!("{number}; {}", hex(caller.input.list_before())))
+        });
+        match answer {
+            Ok(number) => self.numbers[number as usize] += 1,
+            Err(wrong) => {
+                self.wrong += 1;
+                if self.wrong <= SHOWN {
+                    println!("{} answers {wrong}", function.name);
+                }
+            }
+        }
+    }
+
+    /// Prints the counts, and says whether they are as they ought to be.
+    fn report(&self, function: &Function) -> bool {
+        let mut complaint = String::new();
+        print!("{:<10}", function.name);
+        for (number, times) in (0..).zip(self.numbers) {
+            if function.numbers.contains(&number) {
+                print!(" {times:>9}");
+                if times == 0 {
+                    complaint += &format!("  <- lacks {number}");
+                }
+            } else {
+                print!(" {:>9}", "");
+            }
+        }
+        println!(" {:>7}{complaint}", self.wrong);
+        complaint.is_empty() && self.wrong == 0
+    }
+}
+
+/// Makes `count` calls of each function. True if no answer is wrong and each number was seen.
+pub fn run(count: u64, seed: u64) -> bool {
+    let stock = Stock::new(seed);
+    let batches = count.div_ceil(BATCH);
+    let jobs = batches * FUNCTIONS.len() as u64;
+    let next = AtomicU64::new(0);
+    let work = || {
+        let mut tallies = [Tally::default(); FUNCTIONS.len()];
+        loop {
+            let job = next.fetch_add(1, Ordering::Relaxed);
+            if job >= jobs {
+                return tallies;
+            }
+            let (batch, at) = (job / FUNCTIONS.len() as u64, (job % FUNCTIONS.len() as u64) as usize);
+            let mut caller = Caller::new(seed ^ (job + 1) << 32, &stock);
+            for _ in 0..BATCH.min(count - batch * BATCH) {
+                tallies[at].call(&FUNCTIONS[at], &mut caller);
+            }
+        }
+    };
+    let threads = thread::available_parallelism().map_or(1, usize::from);
+    let mut tallies = [Tally::default(); FUNCTIONS.len()];
+    thread::scope(|scope| {
+        let running: Vec<_> = (0..threads).map(|_| scope.spawn(work)).collect();
+        for thread in running {
+            let part = thread.join().expect("a thread that ends");
+            tallies.iter_mut().zip(&part).for_each(|(tally, part)| tally.add(part));
+        }
+    });
+
+    print!("{:<10}", "");
+    for number in 0..NUMBERS {
+        print!(" {number:>9}");
+    }
+    println!(" {:>7}", "wrong");
+    let mut fine = true;
+    for (function, tally) in FUNCTIONS.iter().zip(&tallies) {
+        fine &= tally.report(function);
+    }
+    // The constants are too many to be compared behind each call.
+    if stock.words != Stock::new(seed).words {
+        println!("the list of constants was written to");
+        fine = false;
+    }
+    println!("{count} calls of each function");
+    println!("{}", if fine { "no wrong answer" } else { "FAILED" });
+    fine
+}
