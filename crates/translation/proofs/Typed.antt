@@ -138,38 +138,17 @@ stand-ats before ks rs s (l ∷ ls) h =
 
 -- ---- entries under other references
 
-kind-renamed : (f : ℕ → ℕ) (e : Entry) → kindOf (renamed f e) ≡ kindOf e
-unfolding kindOf
-kind-renamed f (Of.Bare k) = refl
-kind-renamed f (Of.Word w) = refl
-kind-renamed f (Of.Cell k n) = refl
-kind-renamed f (Of.Store k n r) = refl
-kind-renamed f (Of.One k a) = refl
-kind-renamed f (Of.Two k a b) = refl
-kind-renamed f (Of.Three k a b c) = refl
-kind-renamed f (Of.Four k a b c d) = refl
-
-body-renamed : (f : ℕ → ℕ) (e : Entry) → bodyOf (renamed f e) ≡ bodyOf e
-unfolding bodyOf
-body-renamed f (Of.Bare k) = refl
-body-renamed f (Of.Word w) = refl
-body-renamed f (Of.Cell k n) = refl
-body-renamed f (Of.Store k n r) = refl
-body-renamed f (Of.One k a) = refl
-body-renamed f (Of.Two k a b) = refl
-body-renamed f (Of.Three k a b c) = refl
-body-renamed f (Of.Four k a b c d) = refl
-
-refs-renamed : (f : ℕ → ℕ) (e : Entry) → refsOf (renamed f e) ≡ map f (refsOf e)
-unfolding refsOf
-refs-renamed f (Of.Bare k) = refl
-refs-renamed f (Of.Word w) = refl
-refs-renamed f (Of.Cell k n) = refl
-refs-renamed f (Of.Store k n r) = refl
-refs-renamed f (Of.One k a) = refl
-refs-renamed f (Of.Two k a b) = refl
-refs-renamed f (Of.Three k a b c) = refl
-refs-renamed f (Of.Four k a b c d) = refl
+-- kind and body stay, and each reference is renamed
+renamed-is : (f : ℕ → ℕ) (e : Entry) → (kindOf (renamed f e) ≡ kindOf e) × (bodyOf (renamed f e) ≡ bodyOf e) × (refsOf (renamed f e) ≡ map f (refsOf e))
+unfolding kindOf bodyOf refsOf
+renamed-is f (Of.Bare k) = (refl, refl, refl)
+renamed-is f (Of.Word w) = (refl, refl, refl)
+renamed-is f (Of.Cell k n) = (refl, refl, refl)
+renamed-is f (Of.Store k n r) = (refl, refl, refl)
+renamed-is f (Of.One k a) = (refl, refl, refl)
+renamed-is f (Of.Two k a b) = (refl, refl, refl)
+renamed-is f (Of.Three k a b c) = (refl, refl, refl)
+renamed-is f (Of.Four k a b c d) = (refl, refl, refl)
 
 pass-map : (f : ℕ → ℕ) (t u : ℕ → ℕ → Bool) → ((k r : ℕ) → t k r ≡ true → u k (f r) ≡ true) → (ks rs : List ℕ) → refsPass t ks rs ≡ true → refsPass u ks (map f rs) ≡ true
 unfolding refsPass
@@ -220,24 +199,25 @@ module _ (before ks rs : List ℕ) (s : Stand before ks rs) (e : Entry) (h : ord
   front : (c k : Code) (ls : List ℕ) (b : Built) → kind ls k ≡ kind ks c → Sound (before ++ makes e′) ls k b → Sound before ks c (behind (e′ ∷ []) b)
   unfolding refsOk
   front c k ls b q x =
+      let same = renamed-is (at rs) e in
       let i = and-left (inner e) _ h in
       let r = and-right (inner e) _ h in
       let passes = pass-map (at rs) (names ks) (names before) (stand-names before ks rs s) (formatOf (kindOf e) .operands) (refsOf e) (and-right (bodied e) _ r) in
       record {
-        inside = rw (kind-renamed (at rs) e, i) (x .inside);
-        bodies = rw (kind-renamed (at rs) e, body-renamed (at rs) e, and-left (bodied e) _ r) (x .bodies);
-        refs = rw (kind-renamed (at rs) e, refs-renamed (at rs) e, passes) (x .refs);
+        inside = rw (same .0, i) (x .inside);
+        bodies = rw (same .0, same .1, and-left (bodied e) _ r) (x .bodies);
+        refs = rw (same .0, same .2, passes) (x .refs);
         next = x .next ∙ ap length (append-assoc before (makes e′) (made (b .entries)));
         result = rw (← q, ← append-assoc before (makes e′) (made (b .entries))) (x .result);
       }
 
   makes-one : not (eqb (resultOf e) 0) ≡ true → makes e′ ≡ resultOf e ∷ []
   unfolding makes
-  makes-one n = rw (kind-renamed (at rs) e, not-true (eqb (resultOf e) 0) n) refl
+  makes-one n = rw (renamed-is (at rs) e .0, not-true (eqb (resultOf e) 0) n) refl
 
   makes-none : eqb (resultOf e) 0 ≡ true → makes e′ ≡ []
   unfolding makes
-  makes-none n = rw (kind-renamed (at rs) e, n) refl
+  makes-none n = rw (renamed-is (at rs) e .0, n) refl
 
 -- code, and then what follows it
 joined : (before ks ls : List ℕ) (c k w : Code) (b d : Built) → kind ls k ≡ kind ks w → (args : List ℕ) → Sound before args c b → Sound (before ++ made (b .entries)) ls k d → Sound before ks w (behind (b .entries) d)

@@ -10,6 +10,8 @@ use Rattle.strip.specs.declared.reader.Entry.{Entry}
 use Rattle.strip.specs.Entry.{encode}
 use Rattle.translation.specs.declared.writer.Pos.{Pos}
 use Rattle.translation.specs.declared.writer.Made.{Made}
+use Rattle.translation.specs.Insn.{Insn}
+use Rattle.translation.specs.Helpers.{srcBc}
 use Rattle.translation.specs.Code.{Code, ret, op, act, call, mark, ite, renamed, at as level, ats}
 
 -- the buffer, where the next byte goes, the next number, and the use mark that was raised: a slot and how many bytes of it (0: none)
@@ -71,3 +73,7 @@ pub record Raises (b b′ : Buffer) (s n : ℕ) : Type 0 where
 -- from the buffer b a helper comes to m, as the code c of the numbers rs does
 pub record Does (b : Buffer) (m : Value) (c : Code) (rs : List ℕ) : Type 0 where
   pub is : m ≡ emits c rs b
+
+-- from b to b′ the words x and y are fetched: code k behind it, of a, x and y, is what `srcBc` has follow
+pub record Fetches (b b′ : Buffer) (i : Insn) (swap : Bool) (x y : ℕ) : Type 0 where
+  pub is : (k : Code) (a : ℕ) (n : Value) → Does b′ n k (a ∷ x ∷ y ∷ []) → Does b n (srcBc i swap k) (a ∷ [])

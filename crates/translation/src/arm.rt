@@ -1,7 +1,7 @@
 // The thirty arms of `op` (translate.rs), and their parts: each writes the entries of its definition in specs/Arms.antt.
 ghost use mathlib.Core.List.{[], _∷_};
 ghost use Prim.Native.Nat.{_<_, _≤_};
-ghost use Rattle.translation.specs.Arms.{absolute, addFlag, addOne, bfe, bfi, bfiBc, bfiOf, csetp, extractField, fieldOf, findMsb, flo, floShift, i2i, iadd, iadd3, iadd32i, iadd3Fetch, iadd3Of, iadd3Shift, iadd3Sum, iaddOf, iaddSum, icmp, icmpBc, icmpOf, icompare, imnmx, insertField, iscadd, lea, leaB, leaJoin, leaWord, loadCell, lop, lop32i, lop3Arm, lopPredicate, lopTest, lopWord, maxOf, minOf, minOrMax, mov, mov32i, noteUnless, p2r, p2rTurn, p2rTurns, pcombine, popc, prepared, r2p, r2pTurn, r2pTurns, reverseIf, saturateIf, sel, setEither, setTruth, setWord, setpBoth, shf, shfAmount, shfOf, shfSelect, shfWord, shl, shr, storeCell, useField, vmnmx, vmnmxB, vmnmxFirst, vmnmxInsert, vmnmxMerge, vmnmxMixed, vmnmxOf, vmnmxSaturate, vmnmxWord, xmad, xmadAlter, xmadBc, xmadFetch, xmadMerge, xmadOf, xmadProduct, xmadShift};
+ghost use Rattle.translation.specs.Arms.{absolute, addFlag, addOne, bfe, bfi, bfiOf, csetp, extractField, fieldOf, findMsb, flo, floShift, i2i, iadd, iadd3, iadd32i, iadd3Fetch, iadd3Of, iadd3Shift, iadd3Sum, iaddOf, iaddSum, icmp, icmpOf, icompare, imnmx, insertField, iscadd, lea, leaB, leaJoin, leaWord, loadCell, lop, lop32i, lop3Arm, lopPredicate, lopTest, lopWord, maxOf, minOf, minOrMax, mov, mov32i, noteUnless, p2r, p2rTurn, p2rTurns, pcombine, popc, prepared, r2p, r2pTurn, r2pTurns, reverseIf, saturateIf, sel, setEither, setTruth, setWord, setpBoth, shf, shfAmount, shfOf, shfSelect, shfWord, shl, shr, storeCell, useField, vmnmx, vmnmxB, vmnmxFirst, vmnmxInsert, vmnmxMerge, vmnmxMixed, vmnmxOf, vmnmxSaturate, vmnmxWord, xmad, xmadAlter, xmadFetch, xmadMerge, xmadOf, xmadProduct, xmadShift};
 ghost use Rattle.translation.specs.Helpers.{p, r, set};
 ghost use Rattle.translation.specs.Insn.{bit, bits, ra, rc, rd};
 ghost use Rattle.translation.specs.Emit.{view, seen, Does};
@@ -30,6 +30,7 @@ use crate::helper::set_cc_none;
 use crate::helper::setp;
 use crate::helper::shift;
 use crate::helper::src_b;
+use crate::helper::src_bc;
 use crate::helper::video_operand;
 use crate::insn::Insn;
 use crate::insn::bit;
@@ -432,20 +433,6 @@ pub fn xmad_of(buf: &mut [u8; 264], at: Pos, i: Insn, a: u8, b: u8, c: u8) -> Ma
     set_d(buf, v2.pos, i, v2.value)
 }
 
-pub fn xmad_bc(buf: &mut [u8; 264], at: Pos, i: Insn, a: u8) -> Made
-    ensures { λ m. ⌜ Does (view (now (buf .entry)) at) (seen (now (buf .exit)) m) (xmadBc i) (a ∷ []) ⌝ }
-{
-    if both(i.form == 1, xmad_swaps(i)) {
-        let b = r_c(buf, at, i);
-        let c = cbuf_imm(buf, b.pos, i);
-        xmad_of(buf, c.pos, i, a, b.value, c.value)
-    } else {
-        let b = src_b(buf, at, i);
-        let c = r_c(buf, b.pos, i);
-        xmad_of(buf, c.pos, i, a, b.value, c.value)
-    }
-}
-
 pub fn xmad_fetch(buf: &mut [u8; 264], at: Pos, i: Insn, a: u8) -> Made
     ensures { λ m. ⌜ Does (view (now (buf .entry)) at) (seen (now (buf .exit)) m) (xmadFetch i) (a ∷ []) ⌝ }
 {
@@ -454,7 +441,8 @@ pub fn xmad_fetch(buf: &mut [u8; 264], at: Pos, i: Insn, a: u8) -> Made
         let c = r_c(buf, b.pos, i);
         xmad_of(buf, c.pos, i, a, b.value, c.value)
     } else {
-        xmad_bc(buf, at, i, a)
+        let w = src_bc(buf, at, i, xmad_swaps(i));
+        xmad_of(buf, w.pos, i, a, w.b, w.c)
     }
 }
 
@@ -507,25 +495,12 @@ pub fn icmp_of(buf: &mut [u8; 264], at: Pos, i: Insn, a: u8, b: u8, c: u8) -> Ma
     set_d(buf, v.pos, i, v.value)
 }
 
-pub fn icmp_bc(buf: &mut [u8; 264], at: Pos, i: Insn, a: u8) -> Made
-    ensures { λ m. ⌜ Does (view (now (buf .entry)) at) (seen (now (buf .exit)) m) (icmpBc i) (a ∷ []) ⌝ }
-{
-    if both(i.form == 1, icmp_swaps(i)) {
-        let b = r_c(buf, at, i);
-        let c = cbuf_imm(buf, b.pos, i);
-        icmp_of(buf, c.pos, i, a, b.value, c.value)
-    } else {
-        let b = src_b(buf, at, i);
-        let c = r_c(buf, b.pos, i);
-        icmp_of(buf, c.pos, i, a, b.value, c.value)
-    }
-}
-
 pub fn icmp(buf: &mut [u8; 264], at: Pos, i: Insn) -> Made
     ensures { λ m. ⌜ Does (view (now (buf .entry)) at) (seen (now (buf .exit)) m) (icmp i) [] ⌝ }
 {
     let a = r_a(buf, at, i);
-    icmp_bc(buf, a.pos, i, a.value)
+    let w = src_bc(buf, a.pos, i, icmp_swaps(i));
+    icmp_of(buf, w.pos, i, a.value, w.b, w.c)
 }
 
 pub fn lop_word(buf: &mut [u8; 264], at: Pos, o: u8, a: u8, b: u8) -> Made
@@ -718,25 +693,12 @@ pub fn bfi_of(buf: &mut [u8; 264], at: Pos, i: Insn, a: u8, b: u8, c: u8) -> Mad
     set_d(buf, v.pos, i, v.value)
 }
 
-pub fn bfi_bc(buf: &mut [u8; 264], at: Pos, i: Insn, a: u8) -> Made
-    ensures { λ m. ⌜ Does (view (now (buf .entry)) at) (seen (now (buf .exit)) m) (bfiBc i) (a ∷ []) ⌝ }
-{
-    if both(i.form == 1, bfi_swaps(i)) {
-        let b = r_c(buf, at, i);
-        let c = cbuf_imm(buf, b.pos, i);
-        bfi_of(buf, c.pos, i, a, b.value, c.value)
-    } else {
-        let b = src_b(buf, at, i);
-        let c = r_c(buf, b.pos, i);
-        bfi_of(buf, c.pos, i, a, b.value, c.value)
-    }
-}
-
 pub fn bfi(buf: &mut [u8; 264], at: Pos, i: Insn) -> Made
     ensures { λ m. ⌜ Does (view (now (buf .entry)) at) (seen (now (buf .exit)) m) (bfi i) [] ⌝ }
 {
     let a = r_a(buf, at, i);
-    bfi_bc(buf, a.pos, i, a.value)
+    let w = src_bc(buf, a.pos, i, bfi_swaps(i));
+    bfi_of(buf, w.pos, i, a.value, w.b, w.c)
 }
 
 pub fn vmnmx_b(buf: &mut [u8; 264], at: Pos, i: Insn) -> Made

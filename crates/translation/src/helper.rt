@@ -3,11 +3,12 @@ ghost use mathlib.Core.List.{[], _∷_};
 ghost use Prim.Native.Nat.{_<_, _≤_};
 ghost use Rattle.translation.specs.Helpers.{addWithCarry, addWithFlags, b2u, boolOp, carryFlag, cbufAt, cbufImm, ccCase, ccFlags, ccTest, clampHigh, extract, field, greaterThan, greaterThanEqual, half16, halfSelect, ineg, inot, intCmp, intSource, lessThan, lessThanEqual, logicalNotIf, lop3, lop3Row, lop3Rows, p, predicate, r, saturateAdd, saturateBy, saturateInt, set, setCc, setCcNone, setSumCc, setp, shift, shiftEnd, shiftFill, shifted, signedOverflow, srcB, videoOperand};
 ghost use Rattle.translation.specs.Insn.{cslot, cword};
-ghost use Rattle.translation.specs.Emit.{view, seen, Does};
+ghost use Rattle.translation.specs.Emit.{view, seen, Does, Fetches};
 use crate::insn::Insn;
 use crate::insn::cslot;
 use crate::insn::cword;
 use crate::insn::rb;
+use crate::insn::rc;
 use crate::insn::simm20;
 use crate::mode::both;
 use crate::mode::either;
@@ -16,6 +17,7 @@ use crate::mode::lowest;
 use crate::mode::pick;
 use crate::mode::table_bit;
 use crate::writer::Made;
+use crate::writer::MadeTwo;
 use crate::writer::Pos;
 use crate::writer::cell;
 use crate::writer::four;
@@ -137,6 +139,31 @@ pub fn src_b(buf: &mut [u8; 264], at: Pos, i: Insn) -> Made
         return cbuf_imm(buf, at, i);
     }
     u(buf, at, simm20(i))
+}
+
+// The words b and c. Where a constant is named, `swap` says that it is c.
+pub fn src_bc(buf: &mut [u8; 264], at: Pos, i: Insn, swap: bool) -> MadeTwo
+    ensures { λ m. ⌜ Fetches (view (now (buf .entry)) at) (view (now (buf .exit)) (m .pos)) i swap (m .b) (m .c) ⌝ }
+{
+    if both(i.form == 1, swap) {
+        let b = r(buf, at, rc(i));
+        let c = cbuf_imm(buf, b.pos, i);
+        let pos = c.pos;
+        MadeTwo {
+            pos: pos,
+            b: b.value,
+            c: c.value,
+        }
+    } else {
+        let b = src_b(buf, at, i);
+        let c = r(buf, b.pos, rc(i));
+        let pos = c.pos;
+        MadeTwo {
+            pos: pos,
+            b: b.value,
+            c: c.value,
+        }
+    }
 }
 
 pub fn inot(buf: &mut [u8; 264], at: Pos, on: bool, v: u8) -> Made

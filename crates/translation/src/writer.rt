@@ -25,6 +25,13 @@ pub struct Made {
     pub value: u8,
 }
 
+// The position behind two values, and their numbers.
+pub struct MadeTwo {
+    pub pos: Pos,
+    pub b: u8,
+    pub c: u8,
+}
+
 // Behind n bytes.
 fn skip(p: Pos, n: u8) -> Pos
     ensures { λ r. ⌜ r ≡ record { words = p .words; at = (p .at + n) % 256; values = p .values; slot = p .slot } ⌝ }
