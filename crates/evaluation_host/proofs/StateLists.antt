@@ -1,19 +1,21 @@
 -- A state in two lists, and what `mehkura_evaluate` answers case by case.
 use mathlib.Core.Path.{_≡_, refl}
 use mathlib.Core.List.{List, [], _++_, map}
-use mathlib.Core.Bool.{Bool}
+use mathlib.Core.Bool.{Bool, false}
 use Prim.Native.Nat.{ℕ}
 use native.Mathlib.Omega.{arith}
 use lib.ListN.{length}
+use lib.Dec.{eqb}
 use lib.Seq.{sets}
 use Rattle.evaluation.specs.declared.state.State.{State}
 use Rattle.evaluation.specs.declared.machine.Evaluated.{Evaluated}
 use Rattle.evaluation.specs.declared.machine.Outcome.the-variants.{Done, Refused}
 use Rattle.evaluation.specs.declared.machine.Refusal.{Refusal}
-use Rattle.evaluation.specs.Machine.{evaluated, numberOf, refusalNumber}
+use Rattle.evaluation.specs.declared.machine.Refusal.the-variants.{BadShape, UndefinedValue, NoConstant}
+use Rattle.evaluation.specs.Machine.{numberOf, refusalNumber, Answer, answerOf, evaluation}
 use borrow.Author.Tests.{eq-eqb, ne-eqb}
 use Rattle.truth_bytes.specs.Truths.{bit, truthsAt}
-use Rattle.evaluation_host.specs.States.{stateIn, truthsOf, answer, answerOf, evaluateAnswer}
+use Rattle.evaluation_host.specs.States.{stateIn, truthsOf, answer, given, evaluateAnswer}
 use Rattle.truth_bytes.proofs.Front.{behind, whole}
 
 -- ---- a state in two lists
@@ -38,15 +40,21 @@ module _ (run rs ts cs : List ℕ) where
   unfolding evaluateAnswer
   wrong-truths e h = rw (eq-eqb (length rs) 255 e, ne-eqb (length ts) 11 h)
 
-  pub ran : {s : State} {r : Evaluated} → length rs ≡ 255 → length ts ≡ 11 → s ≡ stateIn rs ts → r ≡ evaluated run s cs → answerOf r rs ts ≡ evaluateAnswer run rs ts cs
+  pub ran : {s : State} {a : Answer} → length rs ≡ 255 → length ts ≡ 11 → s ≡ stateIn rs ts → a ≡ evaluation run s cs → given a rs ts ≡ evaluateAnswer run rs ts cs
   unfolding evaluateAnswer
   ran e h p q = rw (eq-eqb (length rs) 255 e, eq-eqb (length ts) 11 h, ← p, ← q)
 
+nonzero : (f : Refusal) → eqb (refusalNumber f) 0 ≡ false
+unfolding refusalNumber
+nonzero BadShape = refl
+nonzero UndefinedValue = refl
+nonzero NoConstant = refl
+
 module _ (r : Evaluated) (rs ts : List ℕ) where
-  pub done : {rs' ts' : List ℕ} → r .outcome ≡ Done → rs' ≡ r .state .regs → ts' ≡ truthsOf (r .state) → answer 0 rs' ts' ≡ answerOf r rs ts
-  unfolding answerOf numberOf
+  pub done : {rs' ts' : List ℕ} → r .outcome ≡ Done → rs' ≡ r .state .regs → ts' ≡ truthsOf (r .state) → answer 0 rs' ts' ≡ given (answerOf r) rs ts
+  unfolding given numberOf
   done o p q = rw (o, p, q)
 
-  pub refused : {n : ℕ} {f : Refusal} → r .outcome ≡ Refused f → n ≡ refusalNumber f → answer n rs ts ≡ answerOf r rs ts
-  unfolding answerOf numberOf
-  refused o p = rw (o, p)
+  pub refused : {n : ℕ} {f : Refusal} → r .outcome ≡ Refused f → n ≡ refusalNumber f → answer n rs ts ≡ given (answerOf r) rs ts
+  unfolding given numberOf
+  refused {f = f} o p = rw (o, p, nonzero f)

@@ -5,8 +5,8 @@ use mathlib.Core.List.{List, _++_, map}
 use lib.ListN.{length}
 use lib.Dec.{eqb}
 use Rattle.evaluation.specs.declared.state.State.{State}
-use Rattle.evaluation.specs.declared.machine.Evaluated.{Evaluated}
-use Rattle.evaluation.specs.Machine.{evaluated, numberOf, isDone}
+use Rattle.evaluation.specs.Machine.{evaluation}
+use Rattle.evaluation.specs.Machine as Evaluation
 use Rattle.truth_bytes.specs.Truths.{bit, truthsAt}
 
 -- the state that two lists hold
@@ -26,11 +26,11 @@ pub record Answer : Type 0 where
 abbrev pub answer : ℕ → List ℕ → List ℕ → Answer
 answer n rs ts = record { number = n; registers = rs; truths = ts }
 
--- the state behind the run where it was evaluated; a refusal leaves both lists as they were
-unfoldable pub answerOf : Evaluated → List ℕ → List ℕ → Answer
-answerOf r rs ts = cond (isDone (r .outcome)) (answer (numberOf (r .outcome)) (r .state .regs) (truthsOf (r .state))) (answer (numberOf (r .outcome)) rs ts)
+-- the number of the evaluation, and the state after it where that is 0; a refusal leaves both lists as they were
+unfoldable pub given : Evaluation.Answer → List ℕ → List ℕ → Answer
+given a rs ts = cond (eqb (a .number) 0) (answer (a .number) (a .state .regs) (truthsOf (a .state))) (answer (a .number) rs ts)
 
 -- lists of another length hold no state
 unfoldable pub evaluateAnswer : List ℕ → List ℕ → List ℕ → List ℕ → Answer
 evaluateAnswer run rs ts constants =
-    cond (eqb (length rs) 255 && eqb (length ts) 11) (answerOf (evaluated run (stateIn rs ts) constants) rs ts) (answer 7 rs ts)
+    cond (eqb (length rs) 255 && eqb (length ts) 11) (given (evaluation run (stateIn rs ts) constants) rs ts) (answer 7 rs ts)

@@ -10,9 +10,9 @@ use borrow.Author.Tests.{eq-eqb, ne-eqb}
 use Rattle.reach.specs.declared.cells.Cells.{Cells}
 use Rattle.reach.specs.declared.cells.Outcome.the-variants.{Done, BadShape}
 use Rattle.reach.specs.declared.cells.Reached.{Reached}
-use Rattle.reach.specs.Reach.{reached}
+use Rattle.reach.specs.Reach as R
 use Rattle.truth_bytes.specs.Truths.{bit, truthsAt}
-use Rattle.host.specs.Cells.{cellsIn, bytesOf, answer, answerOf, given, reachAnswer}
+use Rattle.host.specs.Cells.{cellsIn, bytesOf, answer, given, reachAnswer}
 use Rattle.truth_bytes.proofs.Front.{behind, whole}
 
 pub cells-read : {regs preds flags slots : List Bool} (bytes : List ℕ) → regs ≡ truthsAt 255 0 bytes → preds ≡ truthsAt 7 255 bytes → flags ≡ truthsAt 4 262 bytes
@@ -33,18 +33,18 @@ cells-written {l₁} {l₂} {l₃} {l₄} c l r p f s h e₁ e₂ e₃ e₄ =
 -- ---- the answer
 module _ (run bytes : List ℕ) where
   pub wrong-length : (length bytes ≡ 298 → ⊥) → answer 7 bytes ≡ reachAnswer run bytes
-  unfolding reachAnswer
+  unfolding reachAnswer R.numberOf
   wrong-length h = rw (ne-eqb (length bytes) 298 h)
 
-  pub ran : {c : Cells} {r : Reached} → length bytes ≡ 298 → c ≡ cellsIn bytes → r ≡ reached run c → given r bytes ≡ reachAnswer run bytes
+  pub ran : {c : Cells} (r : Reached) → length bytes ≡ 298 → c ≡ cellsIn bytes → R.answerOf r ≡ R.reachAnswer run c → given (R.answerOf r) bytes ≡ reachAnswer run bytes
   unfolding reachAnswer
-  ran e p q = rw (eq-eqb (length bytes) 298 e, ← p, ← q)
+  ran r e p q = rw (eq-eqb (length bytes) 298 e, ← p, ← q)
 
 module _ (r : Reached) (bytes : List ℕ) where
-  pub done : {bytes' : List ℕ} → r .outcome ≡ Done → bytes' ≡ bytesOf (r .cells) → answer 0 bytes' ≡ given r bytes
-  unfolding answerOf
+  pub done : {bytes' : List ℕ} → r .outcome ≡ Done → bytes' ≡ bytesOf (r .cells) → answer 0 bytes' ≡ given (R.answerOf r) bytes
+  unfolding R.numberOf
   done o p = rw (o, p)
 
-  pub refused : r .outcome ≡ BadShape → answer 7 bytes ≡ given r bytes
-  unfolding answerOf
+  pub refused : r .outcome ≡ BadShape → answer 7 bytes ≡ given (R.answerOf r) bytes
+  unfolding R.numberOf
   refused o = rw (o)

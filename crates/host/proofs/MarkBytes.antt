@@ -57,10 +57,10 @@ module _ (bytes marks out : List ℕ) (written : ℕ) where
   unfolding translateAnswer
   wrong-marks h = rw (ne-eqb (length marks) 128 h)
 
-  pub tried : {used : List ℕ} {a : T.Answer} → length marks ≡ 128 → used ≡ wordsIn 32 marks
-      → a ≡ T.translation bytes used out → given a written marks ≡ translateAnswer bytes written marks out
+  pub tried : {used : List ℕ} (a : T.Decision) → length marks ≡ 128 → used ≡ wordsIn 32 marks
+      → a ≡ T.decision bytes used out → given a written marks ≡ translateAnswer bytes written marks out
   unfolding translateAnswer
-  tried e p q = rw (eq-eqb (length marks) 128 e, ← p, ← q)
+  tried a e p q = rw (eq-eqb (length marks) 128 e, ← p, ← q)
 
 module _ (r : Translated) (out : List ℕ) (written : ℕ) (marks : List ℕ) where
   pub translated : {n : ℕ} {marks' : List ℕ} → r .outcome ≡ Written n → marks' ≡ bytesOf (r .«cbuf_used»)

@@ -5,10 +5,8 @@ use mathlib.Core.List.{List, _++_, map}
 use lib.ListN.{length}
 use lib.Dec.{eqb}
 use Rattle.reach.specs.declared.cells.Cells.{Cells}
-use Rattle.reach.specs.declared.cells.Outcome.{Outcome}
-use Rattle.reach.specs.declared.cells.Outcome.the-variants.{Done, BadShape}
-use Rattle.reach.specs.declared.cells.Reached.{Reached}
-use Rattle.reach.specs.Reach.{reached}
+use Rattle.reach.specs.declared.cells.Outcome.the-variants.{BadShape}
+use Rattle.reach.specs.Reach as R
 use Rattle.truth_bytes.specs.Truths.{bit, truthsAt}
 
 -- the cells that bytes list: registers, predicates, flags, slots
@@ -27,14 +25,10 @@ pub record Answer : Type 0 where
 abbrev pub answer : ℕ → List ℕ → Answer
 answer n bytes = record { number = n; cells = bytes }
 
--- a run that is not in order leaves the bytes as they were
-unfoldable pub answerOf : Outcome → Cells → List ℕ → Answer
-answerOf Done c bytes = answer 0 (bytesOf c)
-answerOf BadShape c bytes = answer 7 bytes
-
-abbrev pub given : Reached → List ℕ → Answer
-given r bytes = answerOf (r .outcome) (r .cells) bytes
+-- from what reach answers; a refusal leaves the bytes as they were
+abbrev pub given : R.Answer → List ℕ → Answer
+given a bytes = answer (a .number) (cond (eqb (a .number) 0) (bytesOf (a .cells)) bytes)
 
 -- bytes of another length list no cells
 unfoldable pub reachAnswer : List ℕ → List ℕ → Answer
-reachAnswer run bytes = cond (eqb (length bytes) 298) (given (reached run (cellsIn bytes)) bytes) (answer 7 bytes)
+reachAnswer run bytes = cond (eqb (length bytes) 298) (given (R.reachAnswer run (cellsIn bytes)) bytes) (answer (R.numberOf BadShape) bytes)

@@ -35,10 +35,10 @@ answerOf (Written n) used out written marks = answer 0 n (bytesOf used) out
 answerOf (Refused r) used out written marks = answer (T.refusalNumber r) written marks out
 
 -- from what the translation answers
-abbrev pub given : T.Answer → ℕ → List ℕ → Answer
+abbrev pub given : T.Decision → ℕ → List ℕ → Answer
 given a written marks = answerOf (a .outcome) (a .marks) (a .out) written marks
 
 -- marks of another length are refused before the record is looked at
 unfoldable pub translateAnswer : List ℕ → ℕ → List ℕ → List ℕ → Answer
 translateAnswer bytes written marks out =
-    cond (eqb (length marks) 128) (given (T.translation bytes (wordsIn 32 marks) out) written marks) (answer 1 written marks out)
+    cond (eqb (length marks) 128) (given (T.decision bytes (wordsIn 32 marks) out) written marks) (answer 1 written marks out)

@@ -18,24 +18,31 @@ use Rattle.evaluation.specs.Word.{binaryWord, compareWord}
 use Rattle.evaluation.specs.Value.{withWord, withTruth, binary, compared, two}
 use Rattle.evaluation.specs.State.{loaded, storedPred, storedFlag}
 use Rattle.evaluation.specs.Machine.{storingTruth, storing, cellEffect, valueAt, effectOf}
-use Rattle.translation.specs.Insn.{Insn, bit, ra}
+use Rattle.translation.specs.Insn as T
+use Rattle.meaning.specs.Record.{Record, bit, ra}
+use Rattle.meaning.proofs.Reading.{insn, simm20-same}
 use Rattle.translation.specs.Helpers.{tableBit}
 use Rattle.translation.specs.Arms as A
-use Rattle.translation.proofs.InRange.{bits-lt}
+use Rattle.meaning.proofs.Reading.{bits-lt}
 use Rattle.meaning.specs.Number.{bitAt}
 use Rattle.meaning.specs.Operand.{reg, pred, setPred, flag, setFlag}
 use Rattle.meaning.specs.Meaning as M
-use Rattle.meaning.proofs.Sem.{ran, sem}
+use Rattle.translation.proofs.Sem.{ran, sem}
 use Rattle.meaning.proofs.Order.{leb-iff}
-use Rattle.meaning.proofs.Helper.{Proper, reg-word, set-sem, final, b2u-sem, ra-sem, predicate-sem, noteUnless-sem}
+use Rattle.translation.proofs.Stays.{Proper}
+use Rattle.meaning.proofs.Helper.{reg-word, set-sem, final, b2u-sem, ra-sem, predicate-sem, noteUnless-sem}
 use Rattle.meaning.proofs.Digits.{bits-ext, from-bits, bit-none, bit-and, bit-or, bit-not, bit-shl, bit-mod, bit-high, bit-pow}
 
 -- ---- cells: predicates or flags
 
+mask-is : (i : Record) → A.maskOf (insn i) ≡ M.mask i
+unfolding A.maskOf
+mask-is i = rw (simm20-same i) refl
+
 -- the cells that are asked for: those that the mask names, as far as there are any
-asked-is : (i : Insn) (k : ℕ) → k < 7 → A.asked i k ≡ bitAt (M.mask i) k && ltb k (M.cells i)
-unfolding A.asked A.maskOf tableBit
-asked-is i k h = ap (λ (t : Bool). bitAt (M.mask i) k && t) (go (bit i 40))
+asked-is : (i : Record) (k : ℕ) → k < 7 → A.asked (insn i) k ≡ bitAt (M.mask i) k && ltb k (M.cells i)
+unfolding A.asked tableBit T.bits T.bit
+asked-is i k h = rw (mask-is i) (ap (λ (t : Bool). bitAt (M.mask i) k && t) (go (bit i 40)))
   where
     go : (f : Bool) → ltb k 4 || not f ≡ ltb k (cond f 4 7)
     go true = or-false (ltb k 4)
@@ -63,7 +70,7 @@ bit-left a m = go (bitAt a m) refl
 
 -- ---- r2p: cell after cell
 
-module _ (cs : List ℕ) (i : Insn) where
+module _ (cs : List ℕ) (i : Record) where
   -- cell k stored, by what r2p tells of it
   abbrev setCell : ℕ → Bool → State → State
   setCell k t s = cond (bit i 40) (setFlag s k t) (setPred s k t)
@@ -78,13 +85,13 @@ module _ (cs : List ℕ) (i : Insn) where
 
   module _ (a : ℕ) where
     unfoldable turned : ℕ → State → State
-    turned k s = cond (A.asked i k) (setCell k (bitAt a (M.place i + k)) s) s
+    turned k s = cond (A.asked (insn i) k) (setCell k (bitAt a (M.place i + k)) s) s
 
-    r2pTurn-sem : (s : State) (k : ℕ) → k < 7 → sem cs (A.r2pTurn i k) (Word a ∷ []) s ≡ ran (turned k s) (Word a)
-    unfolding A.r2pTurn A.cellBit turned effectOf two binary binaryWord compared compareWord withWord valueAt
-    r2pTurn-sem s k h = go (A.asked i k) refl
+    r2pTurn-sem : (s : State) (k : ℕ) → k < 7 → sem cs (A.r2pTurn (insn i) k) (Word a ∷ []) s ≡ ran (turned k s) (Word a)
+    unfolding A.r2pTurn A.cellBit turned effectOf two binary binaryWord compared compareWord withWord valueAt T.bits T.bit
+    r2pTurn-sem s k h = go (A.asked (insn i) k) refl
       where
-        go : (b : Bool) → A.asked i k ≡ b → sem cs (A.r2pTurn i k) (Word a ∷ []) s ≡ ran (turned k s) (Word a)
+        go : (b : Bool) → A.asked (insn i) k ≡ b → sem cs (A.r2pTurn (insn i) k) (Word a ∷ []) s ≡ ran (turned k s) (Word a)
         go true e = rw (e, bit-left a (M.place i + k), storeCell-sem s k (bitAt a (M.place i + k)) h) refl
         go false e = rw e refl
 
@@ -113,8 +120,8 @@ module _ (cs : List ℕ) (i : Insn) where
             past 6 (omega arith) (omega arith) ∙ past 5 (omega arith) (omega arith) ∙ past 4 (omega arith) (omega arith) ∙ turns-spread s 4 (omega arith) (omega arith)
         go false e = let c : M.cells i ≡ 7 = rw e refl in turns-spread s 7 (omega arith) (omega arith)
 
-    r2pTurns-sem : (s : State) → sem cs (A.r2pTurns i) (Word a ∷ []) s ≡ ran (M.spread i a (M.cells i) s) (Word a)
-    unfolding A.r2pTurns valueAt turns
+    r2pTurns-sem : (s : State) → sem cs (A.r2pTurns (insn i)) (Word a ∷ []) s ≡ ran (M.spread i a (M.cells i) s) (Word a)
+    unfolding A.r2pTurns valueAt turns T.bits T.bit
     r2pTurns-sem s =
         rw (
           r2pTurn-sem s 0 (omega arith),
@@ -126,8 +133,8 @@ module _ (cs : List ℕ) (i : Insn) where
           r2pTurn-sem (turns 6 s) 6 (omega arith),
         ) (ap (λ (t : State). ran t (Word a)) (turns-are s))
 
-  pub r2p-does : (s : State) → final (sem cs (A.r2p i) [] s) ≡ some (M.r2p i s)
-  unfolding A.r2p valueAt
+  pub r2p-does : (s : State) → final (sem cs (A.r2p (insn i)) [] s) ≡ some (M.r2p i s)
+  unfolding A.r2p valueAt T.bits T.bit
   r2p-does s = rw (ra-sem cs s i, noteUnless-sem cs s, r2pTurns-sem (reg s (ra i)) s) refl
 
 -- ---- p2r: the masked bits cleared, then cell after cell put in
@@ -140,7 +147,7 @@ low-byte x m = go (ltb m 8) refl
     go true e = bit-mod x 8 m (ltb-true m 8 e)
     go false e = bit-high (x % 256) 8 m (omega arith) (ltb-false m 8 e)
 
-module _ (cs : List ℕ) (i : Insn) (s : State) where
+module _ (cs : List ℕ) (i : Record) (s : State) where
   abbrev cell : ℕ → Bool
   cell k = cond (bit i 40) (flag s k) (pred s k)
 
@@ -160,13 +167,13 @@ module _ (cs : List ℕ) (i : Insn) (s : State) where
 
   -- one turn
   unfoldable put : ℕ → ℕ → ℕ
-  put k v = cond (A.asked i k) (bitOr v (cond (cell k) (2 ^ (sh + k)) 0)) v
+  put k v = cond (A.asked (insn i) k) (bitOr v (cond (cell k) (2 ^ (sh + k)) 0)) v
 
-  p2rTurn-sem : (k v : ℕ) → k < 7 → sem cs (A.p2rTurn i k) (Word v ∷ []) s ≡ ran s (Word (put k v))
-  unfolding A.p2rTurn A.cellBit put effectOf two binary binaryWord withWord valueAt
-  p2rTurn-sem k v h = go (A.asked i k) refl
+  p2rTurn-sem : (k v : ℕ) → k < 7 → sem cs (A.p2rTurn (insn i) k) (Word v ∷ []) s ≡ ran s (Word (put k v))
+  unfolding A.p2rTurn A.cellBit put effectOf two binary binaryWord withWord valueAt T.bits T.bit
+  p2rTurn-sem k v h = go (A.asked (insn i) k) refl
     where
-      go : (b : Bool) → A.asked i k ≡ b → sem cs (A.p2rTurn i k) (Word v ∷ []) s ≡ ran s (Word (put k v))
+      go : (b : Bool) → A.asked (insn i) k ≡ b → sem cs (A.p2rTurn (insn i) k) (Word v ∷ []) s ≡ ran s (Word (put k v))
       go true e =
           let l : k < M.cells i = ltb-true k (M.cells i) (and-right (bitAt (M.mask i) k) _ (sym (asked-is i k h) ∙ e)) in
           rw (e, loadCell-sem k l h, b2u-sem cs s (2 ^ (sh + k)) 0 (cell k)) refl
@@ -174,7 +181,7 @@ module _ (cs : List ℕ) (i : Insn) (s : State) where
 
   put-word : (k v : ℕ) → k < 7 → v < 2 ^ 32 → put k v < 2 ^ 32
   unfolding put
-  put-word k v h l = go (A.asked i k) (cell k)
+  put-word k v h l = go (A.asked (insn i) k) (cell k)
     where
       go : (b c : Bool) → cond b (bitOr v (cond c (2 ^ (sh + k)) 0)) v < 2 ^ 32
       go true true = let q = sh-le in or-lt 32 v (2 ^ (sh + k)) l (pow-lt {i = sh + k} {j = 32} (omega arith))
@@ -182,9 +189,9 @@ module _ (cs : List ℕ) (i : Insn) (s : State) where
       go false c = l
 
   -- bit j changes in turn k alone, where j is sh + k
-  bit-put : (k v j : ℕ) → bitAt (put k v) j ≡ cond (eqb j (sh + k)) (bitAt v j || (A.asked i k && cell k)) (bitAt v j)
+  bit-put : (k v j : ℕ) → bitAt (put k v) j ≡ cond (eqb j (sh + k)) (bitAt v j || (A.asked (insn i) k && cell k)) (bitAt v j)
   unfolding put
-  bit-put k v j = go (A.asked i k) (cell k)
+  bit-put k v j = go (A.asked (insn i) k) (cell k)
     where
       either : (e x : Bool) → x ≡ cond e (x || false) x
       either true x = sym (or-false x)
@@ -211,7 +218,7 @@ module _ (cs : List ℕ) (i : Insn) (s : State) where
 
   -- bit j of v with its cell, where that is asked for
   abbrev filled : ℕ → ℕ → Bool
-  filled v j = bitAt v j || (A.asked i (j - sh) && cell (j - sh))
+  filled v j = bitAt v j || (A.asked (insn i) (j - sh) && cell (j - sh))
 
   bit-puts : (n v j : ℕ) → bitAt (puts n v) j ≡ cond (leb sh j && ltb (j - sh) n) (filled v j) (bitAt v j)
   unfolding puts
@@ -223,15 +230,15 @@ module _ (cs : List ℕ) (i : Insn) (s : State) where
       same false q d = refl
 
       go : (b : Bool) → eqb j (sh + n) ≡ b → bitAt (puts n v) j ≡ cond (leb sh j && ltb (j - sh) n) (filled v j) (bitAt v j)
-          → cond b (bitAt (puts n v) j || (A.asked i n && cell n)) (bitAt (puts n v) j) ≡ cond (leb sh j && ltb (j - sh) (suc n)) (filled v j) (bitAt v j)
+          → cond b (bitAt (puts n v) j || (A.asked (insn i) n && cell n)) (bitAt (puts n v) j) ≡ cond (leb sh j && ltb (j - sh) (suc n)) (filled v j) (bitAt v j)
       go true e before =
           let d : j ≡ sh + n = eqb-true j (sh + n) e in
           let m : j - sh ≡ n = omega arith in
           rw (before, m, le-leb sh j (omega arith), le-ltb n n (omega arith), lt-ltb n (suc n) (omega arith)) refl
       go false e before = before ∙ ap (λ (t : Bool). cond t (filled v j) (bitAt v j)) (same (leb sh j) refl (eqb-false j (sh + n) e))
 
-  p2rTurns-sem : (v : ℕ) → sem cs (A.p2rTurns i) (Word v ∷ []) s ≡ ran s (Word (puts 7 v))
-  unfolding A.p2rTurns valueAt puts
+  p2rTurns-sem : (v : ℕ) → sem cs (A.p2rTurns (insn i)) (Word v ∷ []) s ≡ ran s (Word (puts 7 v))
+  unfolding A.p2rTurns valueAt puts T.bits T.bit
   p2rTurns-sem v =
       rw (
         p2rTurn-sem 0 v (omega arith),
@@ -252,22 +259,22 @@ module _ (cs : List ℕ) (i : Insn) (s : State) where
   named j = leb sh j && inByte (j - sh)
 
   -- then it is not kept
-  bit-kept : (a j : ℕ) → j < 32 → bitAt (bitAnd a (A.p2rKeep i)) j ≡ bitAt a j && not (named j)
-  unfolding A.p2rKeep A.maskOf
+  bit-kept : (a j : ℕ) → j < 32 → bitAt (bitAnd a (A.p2rKeep (insn i))) j ≡ bitAt a j && not (named j)
+  unfolding A.p2rKeep T.bits T.bit
   bit-kept a j h =
       let q = sh-le in
       let byte = M.mask i % 256 in
       let l : byte * 2 ^ sh < 2 ^ 32 = lt-of-lt-of-le (shl-lt 8 sh (omega arith)) (pow-mono {i = 8 + sh} {j = 32} (omega arith)) in
-      rw (bit-and a (2 ^ 32 - 1 - byte * 2 ^ sh) j, bit-not (byte * 2 ^ sh) j l h, bit-shl byte sh j, low-byte (M.mask i) (j - sh), as-and (leb sh j)) refl
+      rw (mask-is i, bit-and a (2 ^ 32 - 1 - byte * 2 ^ sh) j, bit-not (byte * 2 ^ sh) j l h, bit-shl byte sh j, low-byte (M.mask i) (j - sh), as-and (leb sh j)) refl
     where
       as-and : (b t : Bool) → cond b t false ≡ b && t
       as-and true t = refl
       as-and false t = refl
 
   -- together: where the mask names a bit of the byte it is the cell, or 0 where there is none
-  bit-packed : (a j : ℕ) → j < 32 → bitAt (puts 7 (bitAnd a (A.p2rKeep i))) j ≡ cond (named j) (M.cellBit i s (j - sh)) (bitAt a j)
+  bit-packed : (a j : ℕ) → j < 32 → bitAt (puts 7 (bitAnd a (A.p2rKeep (insn i)))) j ≡ cond (named j) (M.cellBit i s (j - sh)) (bitAt a j)
   unfolding M.cellBit
-  bit-packed a j h = bit-puts 7 (bitAnd a (A.p2rKeep i)) j ∙ rw (bit-kept a j h) (go (j - sh) (leb sh j) (ltb (j - sh) 7) refl)
+  bit-packed a j h = bit-puts 7 (bitAnd a (A.p2rKeep (insn i))) j ∙ rw (bit-kept a j h) (go (j - sh) (leb sh j) (ltb (j - sh) 7) refl)
     where
       -- below the seventh bit, and from it on
       below : (x m l c : Bool) → (x && not m) || ((m && l) && c) ≡ cond m (l && c) x
@@ -287,7 +294,7 @@ module _ (cs : List ℕ) (i : Insn) (s : State) where
       few false = omega arith
 
       go : (m : ℕ) (b d : Bool) → ltb m 7 ≡ d
-          → cond (b && d) ((bitAt a j && not (b && inByte m)) || (A.asked i m && cell m)) (bitAt a j && not (b && inByte m))
+          → cond (b && d) ((bitAt a j && not (b && inByte m)) || (A.asked (insn i) m && cell m)) (bitAt a j && not (b && inByte m))
           ≡ cond (b && inByte m) (ltb m (M.cells i) && cell m) (bitAt a j)
       go m false d f = and-true (bitAt a j)
       go m true true f =
@@ -308,14 +315,14 @@ module _ (cs : List ℕ) (i : Insn) (s : State) where
           ap (λ (t : Bool). t && bitAt (M.mask i) (j - sh)) (leb-iff (suc j) (sh + 8) (suc (j - sh)) 8 (omega arith))
       go false e = refl
 
-  packed-is : (a : ℕ) → a < 2 ^ 32 → puts 7 (bitAnd a (A.p2rKeep i)) ≡ M.packed i s a
+  packed-is : (a : ℕ) → a < 2 ^ 32 → puts 7 (bitAnd a (A.p2rKeep (insn i))) ≡ M.packed i s a
   unfolding M.packed
   packed-is a h =
-      let v = bitAnd a (A.p2rKeep i) in
+      let v = bitAnd a (A.p2rKeep (insn i)) in
       from-bits 32 (puts 7 v) (λ j. cond (leb sh j && (ltb j (sh + 8) && bitAt (M.mask i) (j - sh))) (M.cellBit i s (j - sh)) (bitAt a j))
-      (puts-word 7 v (omega arith) (lt-of-le-of-lt (and-le-l a (A.p2rKeep i)) h)) (λ j k. rw (named-is j) (bit-packed a j k))
+      (puts-word 7 v (omega arith) (lt-of-le-of-lt (and-le-l a (A.p2rKeep (insn i))) h)) (λ j k. rw (named-is j) (bit-packed a j k))
 
-  pub p2r-does : Proper cs s → final (sem cs (A.p2r i) [] s) ≡ some (M.p2r i s)
-  unfolding A.p2r effectOf two binary binaryWord withWord valueAt
+  pub p2r-does : Proper cs s → final (sem cs (A.p2r (insn i)) [] s) ≡ some (M.p2r i s)
+  unfolding A.p2r effectOf two binary binaryWord withWord valueAt T.bits T.bit
   p2r-does w =
       rw (ra-sem cs s i, noteUnless-sem cs s, p2rTurns-sem, packed-is (reg s (ra i)) (reg-word cs s (ra i) w), set-sem cs) refl

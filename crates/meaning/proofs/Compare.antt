@@ -15,16 +15,19 @@ use Rattle.evaluation.specs.Word.{sLess, binaryWord, compareWord, logicTruth}
 use Rattle.evaluation.specs.Value.{withWord, withTruth, negated, binary, compared, logic, two}
 use Rattle.evaluation.specs.State.{loaded}
 use Rattle.evaluation.specs.Machine.{bareEffect, cellEffect, oneEffect, valueAt, effectOf}
-use Rattle.translation.specs.Insn.{Insn, bits, bit, rd, ra}
+use Rattle.translation.specs.Insn as T
+use Rattle.meaning.specs.Record.{Record, bits, bit, rd, ra}
+use Rattle.meaning.proofs.Reading.{insn}
 use Rattle.translation.specs.Helpers.{p, boolOp, lessThan, lessThanEqual, greaterThan, greaterThanEqual, intCmp, ccFlags, ccCase, ccTest}
 use Rattle.translation.specs.Arms.{setpBoth, truthWord, setTruth, setWord, setEither, csetp, icompare, pcombine, minOf, maxOf, imnmx, icmpOf, icmpSwaps, icmpBc, icmp}
-use Rattle.translation.proofs.InRange.{bits-lt}
+use Rattle.meaning.proofs.Reading.{bits-lt}
 use Rattle.meaning.specs.Number.{numberOf, smaller, greater, bitAt}
 use Rattle.meaning.specs.Operand.{reg, setReg, flag, operandB}
 use Rattle.meaning.specs.Meaning as M
-use Rattle.meaning.proofs.Sem.{ran, halted, sem}
+use Rattle.translation.proofs.Sem.{ran, halted, sem}
 use Rattle.meaning.proofs.Order.{sless-is, not-ltb, not-ltZ}
-use Rattle.meaning.proofs.Helper.{Proper, reg-word, operand-word, set-sem, setp-sem, srcB-sem, srcB-missing, srcBc-sem, srcBc-missing, setCcNone-sem, b2u-sem, missing, final, select-is, ra-sem, second-word, Gives, given, truths, p-sem, chosen-word}
+use Rattle.translation.proofs.Stays.{Proper}
+use Rattle.meaning.proofs.Helper.{reg-word, operand-word, set-sem, setp-sem, srcB-sem, srcB-missing, srcBc-sem, srcBc-missing, setCcIf-sem, b2u-sem, missing, final, select-is, ra-sem, second-word, Gives, given, truths, p-sem, chosen-word}
 
 -- ---- two words: exactly one of less, equal and greater
 
@@ -195,14 +198,14 @@ module _ (cs : List ℕ) (s : State) where
 
 -- ---- a test's truth stored
 
-module _ (cs : List ℕ) (i : Insn) (s : State) where
+module _ (cs : List ℕ) (i : Record) (s : State) where
   -- to two predicates
-  setpBoth-sem : (t p : Bool) → sem cs (setpBoth i) (Truth t ∷ Truth p ∷ []) s ≡ ran (M.setPair i t p s) (Truth (M.combined (bits i 45 2) (not t) p))
-  unfolding setpBoth M.setPair effectOf oneEffect negated withTruth valueAt
+  setpBoth-sem : (t p : Bool) → sem cs (setpBoth (insn i)) (Truth t ∷ Truth p ∷ []) s ≡ ran (M.setPair i t p s) (Truth (M.combined (bits i 45 2) (not t) p))
+  unfolding setpBoth M.setPair effectOf oneEffect negated withTruth valueAt T.bits T.bit
   setpBoth-sem t p = rw (boolOp-sem cs s (bits i 45 2) t p, boolOp-sem cs s (bits i 45 2) (not t) p, setp-sem cs s (bits i 3 3)) (rw (setp-sem cs) refl)
 
-  pair-sem : (t p : Bool) → sem cs (setEither true i) (Truth t ∷ Truth p ∷ []) s ≡ ran (M.setPair i t p s) (Truth (M.combined (bits i 45 2) (not t) p))
-  unfolding setEither
+  pair-sem : (t p : Bool) → sem cs (setEither true (insn i)) (Truth t ∷ Truth p ∷ []) s ≡ ran (M.setPair i t p s) (Truth (M.combined (bits i 45 2) (not t) p))
+  unfolding setEither T.bits T.bit
   pair-sem t p = setpBoth-sem t p
 
   -- to a register
@@ -211,50 +214,50 @@ module _ (cs : List ℕ) (i : Insn) (s : State) where
   truth-word t = chosen-word t _ 0 (chosen-word (bit i 44) 1065353216 (2 ^ 32 - 1) (omega arith) (omega arith)) (omega arith)
 
   setTruth-sem : (t p : Bool) → Proper cs s
-      → sem cs (setTruth i) (Truth (M.combined (bits i 45 2) t p) ∷ []) s ≡ ran (M.setTruth i t p s) (Word (M.truthWord i (M.combined (bits i 45 2) t p)))
-  unfolding setTruth M.setTruth truthWord M.truthWord valueAt
-  setTruth-sem t p w = rw (b2u-sem cs s) (rw (setCcNone-sem cs s w (bit i 47) _ (truth-word (M.combined (bits i 45 2) t p))) (rw (set-sem cs) refl))
+      → sem cs (setTruth (insn i)) (Truth (M.combined (bits i 45 2) t p) ∷ []) s ≡ ran (M.setTruth i t p s) (Word (M.truthWord i (M.combined (bits i 45 2) t p)))
+  unfolding setTruth M.setTruth truthWord M.truthWord valueAt T.bits T.bit
+  setTruth-sem t p w = rw (b2u-sem cs s) (rw (setCcIf-sem cs s w (bit i 47) _ (truth-word (M.combined (bits i 45 2) t p))) (rw (set-sem cs) refl))
 
   word-sem : (t p : Bool) → Proper cs s
-      → sem cs (setEither false i) (Truth t ∷ Truth p ∷ []) s ≡ ran (M.setTruth i t p s) (Word (M.truthWord i (M.combined (bits i 45 2) t p)))
-  unfolding setEither setWord valueAt
+      → sem cs (setEither false (insn i)) (Truth t ∷ Truth p ∷ []) s ≡ ran (M.setTruth i t p s) (Word (M.truthWord i (M.combined (bits i 45 2) t p)))
+  unfolding setEither setWord valueAt T.bits T.bit
   word-sem t p w = rw (boolOp-sem cs s, setTruth-sem t p w) refl
 
   -- ---- the arms
 
-  pub csetp-does : final (sem cs (csetp i) [] s) ≡ some (M.csetp i s)
-  unfolding csetp valueAt
+  pub csetp-does : final (sem cs (csetp (insn i)) [] s) ≡ some (M.csetp i s)
+  unfolding csetp valueAt T.bits T.bit
   csetp-does = rw (ccTest-sem cs s (bits i 8 5), p-sem cs s i 39 42, setpBoth-sem) refl
 
-  pub psetp-does : final (sem cs (pcombine true i) [] s) ≡ some (M.psetp i s)
-  unfolding pcombine valueAt
+  pub psetp-does : final (sem cs (pcombine true (insn i)) [] s) ≡ some (M.psetp i s)
+  unfolding pcombine valueAt T.bits T.bit
   psetp-does = rw (p-sem cs s i 12 15, p-sem cs s i 29 32, p-sem cs s i 39 42, boolOp-sem cs s, pair-sem) refl
 
-  pub pset-does : Proper cs s → final (sem cs (pcombine false i) [] s) ≡ some (M.pset i s)
-  unfolding pcombine valueAt
+  pub pset-does : Proper cs s → final (sem cs (pcombine false (insn i)) [] s) ≡ some (M.pset i s)
+  unfolding pcombine valueAt T.bits T.bit
   pset-does w = rw (p-sem cs s i 12 15, p-sem cs s i 29 32, p-sem cs s i 39 42, boolOp-sem cs s, word-sem _ _ w) refl
 
   -- icmp tests c against 0
   icmpOf-sem : (a b c : ℕ) → c < 2 ^ 32
-      → sem cs (icmpOf i) (Word a ∷ Word b ∷ Word c ∷ []) s
+      → sem cs (icmpOf (insn i)) (Word a ∷ Word b ∷ Word c ∷ []) s
       ≡ ran (setReg s (rd i) (cond (M.intTest (bits i 49 3) (bit i 48) c 0) a b)) (Word (cond (M.intTest (bits i 49 3) (bit i 48) c 0) a b))
-  unfolding icmpOf effectOf valueAt
+  unfolding icmpOf effectOf valueAt T.bits T.bit
   icmpOf-sem a b c h = rw (intCmp-sem cs s (bits i 49 3) (bit i 48) c 0 (bits-lt i 49 3) h (omega arith), select-is, set-sem cs s) refl
 
   module _ (h : missing cs i ≡ false) (w : Proper cs s) where
     tested-sem : sem cs (intCmp (bits i 49 3) (bit i 48)) (Word (reg s (ra i)) ∷ Word (operandB cs i s) ∷ []) s ≡ ran s (Truth (M.intTested cs i s))
     tested-sem = intCmp-sem cs s (bits i 49 3) (bit i 48) (reg s (ra i)) (operandB cs i s) (bits-lt i 49 3) (reg-word cs s (ra i) w) (operand-word cs s i w)
 
-    pub isetp-does : final (sem cs (icompare true i) [] s) ≡ some (M.isetp cs i s)
-    unfolding icompare valueAt
+    pub isetp-does : final (sem cs (icompare true (insn i)) [] s) ≡ some (M.isetp cs i s)
+    unfolding icompare valueAt T.bits T.bit
     isetp-does = rw (ra-sem cs s i, srcB-sem cs s i h, p-sem cs s i 39 42, tested-sem, pair-sem) refl
 
-    pub iset-does : final (sem cs (icompare false i) [] s) ≡ some (M.iset cs i s)
-    unfolding icompare valueAt
+    pub iset-does : final (sem cs (icompare false (insn i)) [] s) ≡ some (M.iset cs i s)
+    unfolding icompare valueAt T.bits T.bit
     iset-does = rw (ra-sem cs s i, srcB-sem cs s i h, p-sem cs s i 39 42, tested-sem, word-sem _ _ w) refl
 
-    pub imnmx-does : final (sem cs (imnmx i) [] s) ≡ some (M.imnmx cs i s)
-    unfolding imnmx valueAt effectOf
+    pub imnmx-does : final (sem cs (imnmx (insn i)) [] s) ≡ some (M.imnmx cs i s)
+    unfolding imnmx valueAt effectOf T.bits T.bit
     imnmx-does =
         rw (
           ra-sem cs s i,
@@ -266,26 +269,26 @@ module _ (cs : List ℕ) (i : Insn) (s : State) where
           set-sem cs s,
         ) refl
 
-    pub icmp-does : final (sem cs (icmp i) [] s) ≡ some (M.icmp cs i s)
-    unfolding icmp icmpBc icmpSwaps valueAt
+    pub icmp-does : final (sem cs (icmp (insn i)) [] s) ≡ some (M.icmp cs i s)
+    unfolding icmp icmpBc icmpSwaps valueAt T.bits T.bit
     icmp-does =
-        rw (ra-sem cs s i, srcBc-sem cs s i (M.opcode i 21312) (icmpOf i) (reg s (ra i)) h, icmpOf-sem _ _ _ (second-word cs s i (M.opcode i 21312) w)) refl
+        rw (ra-sem cs s i, srcBc-sem cs s i (M.opcode i 21312) (icmpOf (insn i)) (reg s (ra i)) h, icmpOf-sem _ _ _ (second-word cs s i (M.opcode i 21312) w)) refl
 
   module _ (h : missing cs i ≡ true) where
-    compare-missing : (pair : Bool) → sem cs (icompare pair i) [] s ≡ halted NoConstant s
-    unfolding icompare valueAt
+    compare-missing : (pair : Bool) → sem cs (icompare pair (insn i)) [] s ≡ halted NoConstant s
+    unfolding icompare valueAt T.bits T.bit
     compare-missing pair = rw (ra-sem cs s i, srcB-missing cs s i h) refl
 
-    pub isetp-missing : sem cs (icompare true i) [] s ≡ halted NoConstant s
+    pub isetp-missing : sem cs (icompare true (insn i)) [] s ≡ halted NoConstant s
     isetp-missing = compare-missing true
 
-    pub iset-missing : sem cs (icompare false i) [] s ≡ halted NoConstant s
+    pub iset-missing : sem cs (icompare false (insn i)) [] s ≡ halted NoConstant s
     iset-missing = compare-missing false
 
-    pub imnmx-missing : sem cs (imnmx i) [] s ≡ halted NoConstant s
-    unfolding imnmx valueAt
+    pub imnmx-missing : sem cs (imnmx (insn i)) [] s ≡ halted NoConstant s
+    unfolding imnmx valueAt T.bits T.bit
     imnmx-missing = rw (ra-sem cs s i, srcB-missing cs s i h) refl
 
-    pub icmp-missing : sem cs (icmp i) [] s ≡ halted NoConstant s
-    unfolding icmp icmpBc icmpSwaps valueAt
-    icmp-missing = rw (ra-sem cs s i, srcBc-missing cs s i (M.opcode i 21312) (icmpOf i) (reg s (ra i)) h) refl
+    pub icmp-missing : sem cs (icmp (insn i)) [] s ≡ halted NoConstant s
+    unfolding icmp icmpBc icmpSwaps valueAt T.bits T.bit
+    icmp-missing = rw (ra-sem cs s i, srcBc-missing cs s i (M.opcode i 21312) (icmpOf (insn i)) (reg s (ra i)) h) refl

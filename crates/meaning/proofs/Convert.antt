@@ -9,36 +9,38 @@ use lib.Dec.{eqb, ltb, leb}
 use lib.IntN.{pos, negsuc, natAbs}
 use lib.Signed.{leZ}
 use borrow.Author.Tests.{ltb-true, ltb-false, lt-ltb, le-ltb, eqb-true, eqb-false}
-use Rattle.strip.specs.declared.reader.Entry.the-variants as Of
 use Rattle.evaluation.specs.declared.value.Value.the-variants.{Word}
 use Rattle.evaluation.specs.declared.state.State.{State}
 use Rattle.evaluation.specs.declared.machine.Refusal.the-variants.{NoConstant}
 use Rattle.evaluation.specs.Word.{sLess, sMin, uMax, sAbs, unaryWord, binaryWord, compareWord}
 use Rattle.evaluation.specs.Value.{withWord, unary, binary, compared, two, insertedValue}
 use Rattle.evaluation.specs.Machine.{oneEffect, fourEffect, valueAt, effectOf}
-use Rattle.translation.specs.Insn.{Insn, bits, bit, rd, ra, rb, rc}
+use Rattle.translation.specs.Insn as T
+use Rattle.meaning.specs.Record.{Record, bits, bit, rd, ra, rb, rc}
+use Rattle.meaning.proofs.Reading.{insn}
 use Rattle.translation.specs.Code.{ret, ite}
 use Rattle.translation.specs.Helpers.{field, videoOperand, intSource, highest, lowest, clampHigh, saturateBy, saturateInt}
 use Rattle.translation.specs.Arms.{vmnmxImm, vmnmxB, vmnmxMixed, vmnmxFirst, minOrMax, vmnmxWord, vmnmxSigned, vmnmxSaturate, vmnmxInsert, vmnmxMerge, vmnmxOf, vmnmx, absolute, saturateIf, i2i}
 use Rattle.translation.specs.Strip.{byteThree}
-use Rattle.translation.proofs.InRange.{bits-lt}
+use Rattle.meaning.proofs.Reading.{bits-lt}
 use Rattle.meaning.specs.Number.{signedOf, numberOf, wordOf, clamp, least, greatest, smaller, greater, extracted, inserted}
 use Rattle.meaning.specs.Operand.{reg, setReg, operandB}
 use Rattle.meaning.specs.Meaning as M
-use Rattle.meaning.proofs.Sem.{ran, halted, sem}
+use Rattle.translation.proofs.Sem.{ran, halted, sem}
 use Rattle.meaning.proofs.Order.{leb-iff, not-leb, negative-is}
-use Rattle.meaning.proofs.Helper.{Proper, reg-word, operand-word, set-sem, srcB-sem, srcB-missing, ineg-sem, missing, final, select-is, ra-sem, rb-sem, rc-sem, chosen-word, negate-word, Gives, given, words}
-use Rattle.meaning.proofs.Field.{word-lt, extracted-lt, field-sem}
+use Rattle.translation.proofs.Stays.{Proper}
+use Rattle.meaning.proofs.Helper.{reg-word, operand-word, set-sem, srcB-sem, srcB-missing, ineg-sem, missing, final, select-is, ra-sem, rb-sem, rc-sem, chosen-word, negate-word, Gives, given, words}
+use Rattle.meaning.proofs.Field.{word-lt, extracted-lt, whole-word, field-sem}
 use Rattle.meaning.proofs.Clamp.{clamp-signed, clamp-unsigned, clamp-positive, clamp-same}
 use Rattle.meaning.proofs.Compare.{smaller-is, greater-is, minOf-sem, maxOf-sem}
 use Rattle.meaning.proofs.Fields.{insert-is}
 
 -- ---- vmnmx: of words a and b, signed or not
 
-video-word : (code : ℕ) (sign : Bool) (x : ℕ) → x < 2 ^ 32 → M.video code sign x < 2 ^ 32
+video-word : (code : ℕ) (sign : Bool) (x : ℕ) → M.video code sign x < 2 ^ 32
 unfolding M.video
-video-word code sign x h =
-    chosen-word (ltb code 4) _ _ (extracted-lt sign x (code * 8) 8) (chosen-word (ltb code 6) _ _ (extracted-lt sign x ((code - 4) * 16) 16) h)
+video-word code sign x =
+    chosen-word (ltb code 4) _ _ (extracted-lt sign x (code * 8) 8) (chosen-word (ltb code 6) _ _ (extracted-lt sign x ((code - 4) * 16) 16) (extracted-lt sign x 0 32))
 
 -- a word is negative from 2 ^ 31 on
 sign-is : (x : ℕ) → ltb (x * 2) (2 ^ 32) ≡ not (leb (2 ^ 31) x)
@@ -62,14 +64,14 @@ imm-is true w =
     go f h false false p q = let n = eqb-false (f / 2 ^ 15) 1 p in absurd (omega (arith, ltb-false (f * 2) (2 ^ 16) q))
 imm-is false w = omega arith
 
-vmnmxImm-is : (i : Insn) → vmnmxImm i ≡ extracted (bit i 49) (bits i 20 16) 0 16
-unfolding vmnmxImm bit bits
+vmnmxImm-is : (i : Record) → vmnmxImm (insn i) ≡ extracted (bit i 49) (bits i 20 16) 0 16
+unfolding vmnmxImm T.bits T.bit
 vmnmxImm-is i = imm-is (bit i 49) (i .word)
 
-videoB-word : (cs : List ℕ) (i : Insn) (s : State) → Proper cs s → M.videoB i s < 2 ^ 32
-videoB-word cs i s w =
+videoB-word : (i : Record) (s : State) → M.videoB i s < 2 ^ 32
+videoB-word i s =
     chosen-word (bit i 50) (M.video (bits i 28 3) (bit i 49) (reg s (rb i))) (extracted (bit i 49) (bits i 20 16) 0 16)
-    (video-word (bits i 28 3) (bit i 49) (reg s (rb i)) (reg-word cs s (rb i) w)) (extracted-lt (bit i 49) (bits i 20 16) 0 16)
+    (video-word (bits i 28 3) (bit i 49) (reg s (rb i))) (extracted-lt (bit i 49) (bits i 20 16) 0 16)
 
 module _ (a b : ℕ) (ha : a < 2 ^ 32) (hb : b < 2 ^ 32) where
   -- of equal words either is the greater and the smaller
@@ -120,23 +122,23 @@ unfolding M.clampIf
 clamp-word on from to n v h = chosen-word on _ v (word-lt _) h
 
 module _ (cs : List ℕ) (s : State) where
-  videoOperand-sem : (code : ℕ) (sign : Bool) (x : ℕ) → sem cs (videoOperand code sign) (Word x ∷ []) s ≡ ran s (Word (M.video code sign x))
+  videoOperand-sem : (code : ℕ) (sign : Bool) (x : ℕ) → x < 2 ^ 32 → sem cs (videoOperand code sign) (Word x ∷ []) s ≡ ran s (Word (M.video code sign x))
   unfolding videoOperand M.video valueAt
-  videoOperand-sem code sign x = go (ltb code 4) (ltb code 6) refl refl
+  videoOperand-sem code sign x h = go (ltb code 4) (ltb code 6) refl refl
     where
       go : (a b : Bool) → ltb code 4 ≡ a → ltb code 6 ≡ b
           → sem cs (ite a (field (code * 8) 8 sign) (ite b (field ((code - 4) * 16) 16 sign) (ret 0))) (Word x ∷ []) s
-          ≡ ran s (Word (cond a (extracted sign x (code * 8) 8) (cond b (extracted sign x ((code - 4) * 16) 16) x)))
+          ≡ ran s (Word (cond a (extracted sign x (code * 8) 8) (cond b (extracted sign x ((code - 4) * 16) 16) (extracted sign x 0 32))))
       go true b e f = field-sem cs s (code * 8) 8 sign x (omega (arith, ltb-true code 4 e))
       go false true e f = field-sem cs s ((code - 4) * 16) 16 sign x (omega (arith, ltb-true code 6 f))
-      go false false e f = refl
+      go false false e f = rw (whole-word sign x h) refl
 
-  vmnmxB-sem : (i : Insn) → sem cs (vmnmxB i) [] s ≡ ran s (Word (M.videoB i s))
-  unfolding vmnmxB effectOf valueAt
-  vmnmxB-sem i = all .gives
+  vmnmxB-sem : (i : Record) → Proper cs s → sem cs (vmnmxB (insn i)) [] s ≡ ran s (Word (M.videoB i s))
+  unfolding vmnmxB effectOf valueAt T.bits T.bit
+  vmnmxB-sem i w = all .gives
     where
-      all : Gives cs s [] (vmnmxB i) (Word (M.videoB i s))
-      all = words _ (given (rw (rb-sem cs s i, videoOperand-sem) refl)) (given (rw (vmnmxImm-is i) refl))
+      all : Gives cs s [] (vmnmxB (insn i)) (Word (M.videoB i s))
+      all = words _ (given (rw (rb-sem cs s i, videoOperand-sem _ _ _ (reg-word cs s (rb i) w)) refl)) (given (rw (vmnmxImm-is i) refl))
 
   module _ (a b : ℕ) (ha : a < 2 ^ 32) (hb : b < 2 ^ 32) where
     minOrMax-sem : (max sign : Bool) → sem cs (minOrMax max sign) (Word a ∷ Word b ∷ []) s ≡ ran s (Word (M.extremum sign sign max a b))
@@ -179,7 +181,7 @@ module _ (cs : List ℕ) (s : State) where
             (words _ (given (vmnmxInsert-sem 16 8 (omega arith)))
             (words _ (given refl) (words _ (given (minOf-sem cs s sign v c hv hc)) (words _ (given (maxOf-sem cs s sign v c hv hc)) (given refl)))))))
 
-module _ (cs : List ℕ) (i : Insn) (s : State) where
+module _ (cs : List ℕ) (i : Record) (s : State) where
   -- the result of words a, b and c
   abbrev vmnmxOf-is : ℕ → ℕ → ℕ → ℕ
   vmnmxOf-is a b c =
@@ -187,8 +189,8 @@ module _ (cs : List ℕ) (i : Insn) (s : State) where
       (M.clampIf (bit i 55) (M.extremumSigned (bit i 48) (bit i 49) (bit i 56)) (bit i 54) 32 (M.extremum (bit i 48) (bit i 49) (bit i 56) a b)) c
 
   vmnmxOf-sem : (a b c : ℕ) → a < 2 ^ 32 → b < 2 ^ 32 → c < 2 ^ 32
-      → sem cs (vmnmxOf i) (Word a ∷ Word b ∷ Word c ∷ []) s ≡ ran (setReg s (rd i) (vmnmxOf-is a b c)) (Word (vmnmxOf-is a b c))
-  unfolding vmnmxOf vmnmxSigned effectOf valueAt
+      → sem cs (vmnmxOf (insn i)) (Word a ∷ Word b ∷ Word c ∷ []) s ≡ ran (setReg s (rd i) (vmnmxOf-is a b c)) (Word (vmnmxOf-is a b c))
+  unfolding vmnmxOf vmnmxSigned effectOf valueAt T.bits T.bit
   vmnmxOf-sem a b c ha hb hc =
       let sign = M.extremumSigned (bit i 48) (bit i 49) (bit i 56) in
       let v = M.extremum (bit i 48) (bit i 49) (bit i 56) a b in
@@ -197,13 +199,13 @@ module _ (cs : List ℕ) (i : Insn) (s : State) where
       rw (vmnmxWord-sem cs s a b ha hb (bit i 48) (bit i 49) (bit i 56), vmnmxSaturate-sem cs s (bit i 55) (bit i 54) sign v hv)
       (rw (vmnmxMerge-sem cs s (M.clampIf (bit i 55) sign (bit i 54) 32 v) c hf hc (bits i 51 3) (bit i 54), set-sem cs s) refl)
 
-  pub vmnmx-does : Proper cs s → final (sem cs (vmnmx i) [] s) ≡ some (M.vmnmx i s)
-  unfolding vmnmx valueAt
+  pub vmnmx-does : Proper cs s → final (sem cs (vmnmx (insn i)) [] s) ≡ some (M.vmnmx i s)
+  unfolding vmnmx valueAt T.bits T.bit
   vmnmx-does w =
       let a = M.video (bits i 36 3) (bit i 48) (reg s (ra i)) in
-      let ha = video-word (bits i 36 3) (bit i 48) (reg s (ra i)) (reg-word cs s (ra i) w) in
-      let hb = videoB-word cs i s w in
-      rw (ra-sem cs s i, videoOperand-sem cs s, vmnmxB-sem cs s i, rc-sem cs s i)
+      let ha = video-word (bits i 36 3) (bit i 48) (reg s (ra i)) in
+      let hb = videoB-word i s in
+      rw (ra-sem cs s i, videoOperand-sem cs s _ _ _ (reg-word cs s (ra i) w), vmnmxB-sem cs s i w, rc-sem cs s i)
       (rw (vmnmxOf-sem a (M.videoB i s) (reg s (rc i)) ha hb (reg-word cs s (rc i) w)) refl)
 
 -- ---- sizes
@@ -238,9 +240,9 @@ size-word code e = let m = size-most code in omega (arith, ltb-false (M.sizeOf c
 
 -- ---- words
 
-source-word : (code : ℕ) (sign : Bool) (byte x : ℕ) → x < 2 ^ 32 → M.source code sign byte x < 2 ^ 32
+source-word : (code : ℕ) (sign : Bool) (byte x : ℕ) → M.source code sign byte x < 2 ^ 32
 unfolding M.source
-source-word code sign byte x h = chosen-word (ltb code 2) _ _ (extracted-lt sign x (byte * 8) (M.sizeOf code)) h
+source-word code sign byte x = extracted-lt sign x (cond (ltb code 2) (byte * 8) 0) (M.sizeOf code)
 
 absolute-word : (on : Bool) (x : ℕ) → x < 2 ^ 32 → M.absoluteIf on x < 2 ^ 32
 unfolding M.absoluteIf
@@ -260,19 +262,19 @@ abs-is x h = go (ltb x (2 ^ 31)) (ltb (x * 2) (2 ^ 32)) refl refl
 
 module _ (cs : List ℕ) (s : State) where
   -- a half from byte 3 on would pass bit 31
-  intSource-sem : (code : ℕ) (sign : Bool) (byte x : ℕ) → byte < 4 → eqb code 1 && eqb byte 3 ≡ false
+  intSource-sem : (code : ℕ) (sign : Bool) (byte x : ℕ) → x < 2 ^ 32 → byte < 4 → eqb code 1 && eqb byte 3 ≡ false
       → sem cs (intSource code sign byte) (Word x ∷ []) s ≡ ran s (Word (M.source code sign byte x))
   unfolding intSource M.source valueAt
-  intSource-sem code sign byte x h k = go (eqb code 0) (eqb code 1) refl refl k
+  intSource-sem code sign byte x hx h k = go (eqb code 0) (eqb code 1) refl refl k
     where
       go : (a b : Bool) → eqb code 0 ≡ a → eqb code 1 ≡ b → b && eqb byte 3 ≡ false
           → sem cs (ite a (field (byte * 8) 8 sign) (ite b (field (byte * 8) 16 sign) (ret 0))) (Word x ∷ []) s
-          ≡ ran s (Word (cond (ltb code 2) (extracted sign x (byte * 8) (cond a 8 (cond b 16 32))) x))
+          ≡ ran s (Word (extracted sign x (cond (ltb code 2) (byte * 8) 0) (cond a 8 (cond b 16 32))))
       go true b e f k = rw (lt-ltb code 2 (omega (arith, eqb-true code 0 e))) (field-sem cs s (byte * 8) 8 sign x (omega arith))
       go false true e f k =
           let n = eqb-false byte 3 k in
           rw (lt-ltb code 2 (omega (arith, eqb-true code 1 f))) (field-sem cs s (byte * 8) 16 sign x (omega arith))
-      go false false e f k = let n = eqb-false code 0 e in let m = eqb-false code 1 f in rw (le-ltb code 2 (omega arith)) refl
+      go false false e f k = let n = eqb-false code 0 e in let m = eqb-false code 1 f in rw (le-ltb code 2 (omega arith), whole-word sign x hx) refl
 
   absolute-sem : (on : Bool) (x : ℕ) → x < 2 ^ 32 → sem cs (absolute on) (Word x ∷ []) s ≡ ran s (Word (M.absoluteIf on x))
   unfolding absolute M.absoluteIf effectOf oneEffect unary unaryWord withWord valueAt
@@ -299,20 +301,20 @@ module _ (cs : List ℕ) (s : State) where
 
 -- ---- the arm
 
-module _ (cs : List ℕ) (i : Insn) (s : State) where
-  pub i2i-does : missing cs i ≡ false → byteThree 24 i ≡ false → Proper cs s → final (sem cs (i2i i) [] s) ≡ some (M.i2i cs i s)
-  unfolding i2i byteThree valueAt
+module _ (cs : List ℕ) (i : Record) (s : State) where
+  pub i2i-does : missing cs i ≡ false → byteThree 24 (insn i) ≡ false → Proper cs s → final (sem cs (i2i (insn i)) [] s) ≡ some (M.i2i cs i s)
+  unfolding i2i byteThree valueAt T.bits T.bit
   i2i-does h k w =
       let b = operandB cs i s in
       let x = M.source (bits i 10 2) (bit i 13) (bits i 41 2) b in
       let a = M.absoluteIf (bit i 49 && bit i 13) x in
-      let hx = source-word (bits i 10 2) (bit i 13) (bits i 41 2) b (operand-word cs s i w) in
+      let hx = source-word (bits i 10 2) (bit i 13) (bits i 41 2) b in
       let ha = absolute-word (bit i 49 && bit i 13) x hx in
       let hn = negate-word (bit i 45) a ha in
-      rw (srcB-sem cs s i h, intSource-sem cs s (bits i 10 2) (bit i 13) (bits i 41 2) b (bits-lt i 41 2) k, absolute-sem cs s (bit i 49 && bit i 13) x hx)
+      rw (srcB-sem cs s i h, intSource-sem cs s (bits i 10 2) (bit i 13) (bits i 41 2) b (operand-word cs s i w) (bits-lt i 41 2) k, absolute-sem cs s (bit i 49 && bit i 13) x hx)
       (rw (ineg-sem cs s, saturateIf-sem cs s (bit i 50) (bit i 13) (bit i 12) (bits i 8 2) (M.negateIf (bit i 45) a) hn)
-      (rw (intSource-sem cs s (bits i 8 2) (bit i 12) 0 _ (omega arith) (and-false (eqb (bits i 8 2) 1)), set-sem cs s) refl))
+      (rw (intSource-sem cs s (bits i 8 2) (bit i 12) 0 _ (clamp-word (bit i 50) (bit i 13) (bit i 12) (M.sizeOf (bits i 8 2)) (M.negateIf (bit i 45) a) hn) (omega arith) (and-false (eqb (bits i 8 2) 1)), set-sem cs s) refl))
 
-  pub i2i-missing : missing cs i ≡ true → sem cs (i2i i) [] s ≡ halted NoConstant s
-  unfolding i2i valueAt
+  pub i2i-missing : missing cs i ≡ true → sem cs (i2i (insn i)) [] s ≡ halted NoConstant s
+  unfolding i2i valueAt T.bits T.bit
   i2i-missing h = rw (srcB-missing cs s i h) refl

@@ -14,14 +14,17 @@ use Rattle.evaluation.specs.declared.machine.Refusal.the-variants.{NoConstant}
 use Rattle.evaluation.specs.Word as E
 use Rattle.evaluation.specs.Value.{withWord, unary, binary, compared, two}
 use Rattle.evaluation.specs.Machine.{oneEffect, valueAt, effectOf}
-use Rattle.translation.specs.Insn.{Insn, bit}
+use Rattle.translation.specs.Insn as T
+use Rattle.meaning.specs.Record.{Record, bit}
+use Rattle.meaning.proofs.Reading.{insn}
 use Rattle.translation.specs.Arms as A
 use Rattle.meaning.specs.Number.{bitAt, ones, highestOne, complement}
 use Rattle.meaning.specs.Operand.{operandB}
 use Rattle.meaning.specs.Meaning as M
-use Rattle.meaning.proofs.Sem.{ran, halted, sem}
+use Rattle.translation.proofs.Sem.{ran, halted, sem}
 use Rattle.meaning.proofs.Order.{not-leb}
-use Rattle.meaning.proofs.Helper.{Proper, operand-word, set-sem, srcB-sem, srcB-missing, missing, final, select-is, inot-sem, complement-word}
+use Rattle.translation.proofs.Stays.{Proper}
+use Rattle.meaning.proofs.Helper.{operand-word, set-sem, srcB-sem, srcB-missing, missing, final, select-is, inot-sem, complement-word}
 use Rattle.meaning.proofs.Digits.{bit-zero, bit-suc, digit-is, top-bit}
 
 -- ---- the highest place
@@ -82,23 +85,23 @@ counted-is (suc n) x = ap (λ (m : ℕ). x % 2 + m) (counted-is n (x / 2)) ∙ s
 
 -- ---- the arms flo and popc
 
-module _ (cs : List ℕ) (i : Insn) (s : State) where
-  pub flo-does : missing cs i ≡ false → Proper cs s → final (sem cs (A.flo i) [] s) ≡ some (M.flo cs i s)
-  unfolding A.flo valueAt
+module _ (cs : List ℕ) (i : Record) (s : State) where
+  pub flo-does : missing cs i ≡ false → Proper cs s → final (sem cs (A.flo (insn i)) [] s) ≡ some (M.flo cs i s)
+  unfolding A.flo valueAt T.bits T.bit
   flo-does h w =
       let b = M.complementIf (bit i 40) (operandB cs i s) in
       let hb = complement-word (bit i 40) (operandB cs i s) (operand-word cs s i w) in
       let range = highest-range (bit i 48) b in
       rw (srcB-sem cs s i h, inot-sem cs s (bit i 40), findMsb-sem cs s (bit i 48) b hb, floShift-sem cs s (bit i 41) (M.highestPlace (bit i 48) b) range, set-sem cs) refl
 
-  pub flo-missing : missing cs i ≡ true → sem cs (A.flo i) [] s ≡ halted NoConstant s
-  unfolding A.flo
+  pub flo-missing : missing cs i ≡ true → sem cs (A.flo (insn i)) [] s ≡ halted NoConstant s
+  unfolding A.flo T.bits T.bit
   flo-missing h = rw (srcB-missing cs s i h) refl
 
-  pub popc-does : missing cs i ≡ false → final (sem cs (A.popc i) [] s) ≡ some (M.popc cs i s)
-  unfolding A.popc effectOf oneEffect unary E.unaryWord withWord valueAt
+  pub popc-does : missing cs i ≡ false → final (sem cs (A.popc (insn i)) [] s) ≡ some (M.popc cs i s)
+  unfolding A.popc effectOf oneEffect unary E.unaryWord withWord valueAt T.bits T.bit
   popc-does h = rw (srcB-sem cs s i h, inot-sem cs s (bit i 40), counted-is 32, set-sem cs) refl
 
-  pub popc-missing : missing cs i ≡ true → sem cs (A.popc i) [] s ≡ halted NoConstant s
-  unfolding A.popc
+  pub popc-missing : missing cs i ≡ true → sem cs (A.popc (insn i)) [] s ≡ halted NoConstant s
+  unfolding A.popc T.bits T.bit
   popc-missing h = rw (srcB-missing cs s i h) refl

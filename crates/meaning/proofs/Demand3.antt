@@ -1,10 +1,9 @@
 -- Demand 3: records translated in turn into one room, and what their strips can reach (T9).
 use mathlib.Core.Path.{_≡_, refl, sym, ap, _∙_, subst}
-use mathlib.Core.Bool.{Bool, true, false, cond, not, _&&_, false≢true, true≢false}
+use mathlib.Core.Bool.{true, false}
 use mathlib.Core.List.{List, [], _∷_, _++_, append-assoc}
 use Prim.Native.Nat.{ℕ, _+_, _≤_}
 use native.Mathlib.Omega.{arith}
-use lib.Dec.{eqb, ltb, leb}
 use lib.ListN.{length, getD, take, drop, length-append, length-drop, take-append-drop}
 use lib.Seq.{take-at, length-take-le, drop-drop, drop-append-add}
 use Rattle.strip.specs.Shape.{shapeOk}
@@ -18,11 +17,9 @@ use Rattle.reach.proofs.Isolation.{Agree, Starts, isolation, storedIn, kept}
 use Rattle.translation.specs.declared.answer.Outcome.{Outcome}
 use Rattle.translation.specs.declared.answer.Outcome.the-variants.{Written, Refused}
 use Rattle.translation.specs.declared.answer.Refusal.{Refusal}
-use Rattle.translation.specs.declared.answer.Refusal.the-variants.{BadLength, UnknownKind, UnknownForm, LaneMov, ByteThree, NoRoom}
-use Rattle.translation.specs.Strip.{Answer, strip, marked, insnOf, known, laneMov, byteThree, admits, refused, fitted, admitted, translation, written}
+use Rattle.translation.specs.Strip.{strip, insnOf, admits, admitted, written}
 use Rattle.translation.proofs.Shape.{Accepted, accepted as accepted-is}
-use Rattle.meaning.specs.Run.{stripsOf}
-use Rattle.meaning.specs.Turn.{Room, Given, isWritten, answered, turn, inTurn, accepted}
+use Rattle.translation.specs.Turn.{stripsOf, Room, Given, answered, turn, inTurn, accepted}
 use Rattle.meaning.proofs.Demand1.{refused-untouched}
 use Rattle.meaning.proofs.Means.{strips-shaped}
 

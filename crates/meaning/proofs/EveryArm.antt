@@ -11,12 +11,15 @@ use Rattle.strip.proofs.Tests.{T-true, and-right, among, every, below}
 use Rattle.strip.proofs.Run.{Each}
 use Rattle.evaluation.specs.declared.state.State.{State}
 use Rattle.evaluation.specs.declared.machine.Refusal.the-variants.{NoConstant}
-use Rattle.translation.specs.Insn.{Insn}
+use Rattle.translation.specs.Insn as T
+use Rattle.meaning.specs.Record.{Record}
+use Rattle.meaning.proofs.Reading.{insn}
 use Rattle.translation.specs.Arms.{armOf, sumArm, bitArm, wordArm}
 use Rattle.translation.specs.Strip.{known, byteThree}
 use Rattle.meaning.specs.Meaning.{meant, mayRead, reads, lent}
-use Rattle.meaning.proofs.Sem.{halted, sem}
-use Rattle.meaning.proofs.Helper.{Proper, final, missing}
+use Rattle.translation.proofs.Sem.{halted, sem}
+use Rattle.translation.proofs.Stays.{Proper}
+use Rattle.meaning.proofs.Helper.{final, missing}
 use Rattle.meaning.proofs.Moves.{mov-does, mov-missing, mov32i-does, sel-does, sel-missing}
 use Rattle.meaning.proofs.Compare.{csetp-does, isetp-does, isetp-missing, iset-does, iset-missing, psetp-does, pset-does, imnmx-does, imnmx-missing, icmp-does, icmp-missing}
 use Rattle.meaning.proofs.Sums.{iadd-does, iadd-missing, iadd32i-does, iadd3-does, iadd3-missing, iscadd-does, iscadd-missing}
@@ -62,7 +65,11 @@ member P (n ∷ ns) k h e = go (eqb k n) refl h (λ h. member P ns k h (e .1))
 also : {A B : Type 0} → A → B → A × B
 also a b = (a, b)
 
-module _ (cs : List ℕ) (i : Insn) (s : State) where
+module _ (cs : List ℕ) (i : Record) (s : State) where
+  -- the record with another kind
+  abbrev of : ℕ → Record
+  of k = record { kind = k; form = i .form; value = i .value; word = i .word }
+
   -- every kind but lea that may read a constant reads it as b; the others read none
   as-b : {x : Bool} → (eqb (i .form) 1 && true) && not (lent cs i) ≡ x → missing cs i ≡ x
   as-b e = rw (← and-true (eqb (i .form) 1)) e
@@ -71,84 +78,85 @@ module _ (cs : List ℕ) (i : Insn) (s : State) where
   reads-none e = absurd (false≢true (rw (and-false (eqb (i .form) 1)) at e))
 
   Does : ℕ → Type 0
-  Does k = Proper cs s → byteThree k i ≡ false → reads k i && not (lent cs i) ≡ false → final (sem cs (armOf k i) [] s) ≡ some (meant cs k i s)
+  Does k = Proper cs s → byteThree k (insn i) ≡ false → reads (of k) && not (lent cs i) ≡ false → final (sem cs (armOf k (insn i)) [] s) ≡ some (meant cs (of k) s)
 
   Misses : ℕ → Type 0
-  Misses k = reads k i && not (lent cs i) ≡ true → sem cs (armOf k i) [] s ≡ halted NoConstant s
+  Misses k = reads (of k) && not (lent cs i) ≡ true → sem cs (armOf k (insn i)) [] s ≡ halted NoConstant s
 
   arms-do : Each Does kinds
-  unfolding Does armOf sumArm bitArm wordArm meant mayRead reads
+  unfolding Does armOf sumArm bitArm wordArm meant mayRead reads T.bits T.bit
   arms-do =
-      also (λ w h e. mov-does cs i s (as-b e))
-      (also (λ w h e. mov32i-does cs i s)
-      (also (λ w h e. sel-does cs i s (as-b e))
-      (also (λ w h e. csetp-does cs i s)
-      (also (λ w h e. isetp-does cs i s (as-b e) w)
-      (also (λ w h e. iset-does cs i s (as-b e) w)
-      (also (λ w h e. psetp-does cs i s)
-      (also (λ w h e. pset-does cs i s w)
-      (also (λ w h e. iadd-does cs i s (as-b e) w)
-      (also (λ w h e. iadd32i-does cs i s w)
-      (also (λ w h e. iadd3-does cs i s (as-b e) w)
-      (also (λ w h e. iscadd-does cs i s (as-b e))
-      (also (λ w h e. xmad-does cs i s (as-b e))
-      (also (λ w h e. imnmx-does cs i s (as-b e) w)
-      (also (λ w h e. icmp-does cs i s (as-b e) w)
-      (also (λ w h e. lop-does cs i s (as-b e) w)
-      (also (λ w h e. lop32i-does cs i s w)
-      (also (λ w h e. lop3Arm-does cs i s (as-b e) w)
-      (also (λ w h e. shl-does cs i s (as-b e) w)
-      (also (λ w h e. shr-does cs i s (as-b e) w)
-      (also (λ w h e. bfe-does cs i s (as-b e) w)
-      (also (λ w h e. bfi-does cs i s (as-b e) w)
-      (also (λ w h e. vmnmx-does cs i s w)
-      (also (λ w h e. i2i-does cs i s (as-b e) h w)
-      (also (λ w h e. flo-does cs i s (as-b e) w)
-      (also (λ w h e. popc-does cs i s (as-b e))
-      (also (λ w h e. r2p-does cs i s)
-      (also (λ w h e. p2r-does cs i s w)
-      (also (λ w h e. shf-does cs i s (as-b e) w)
-      (also (λ w h e. lea-does cs i s e w) tt)))))))))))))))))))))))))))))
+      also (λ w h e. mov-does cs (of 1) s (as-b e))
+      (also (λ w h e. mov32i-does cs (of 2) s)
+      (also (λ w h e. sel-does cs (of 3) s (as-b e))
+      (also (λ w h e. csetp-does cs (of 4) s)
+      (also (λ w h e. isetp-does cs (of 5) s (as-b e) w)
+      (also (λ w h e. iset-does cs (of 6) s (as-b e) w)
+      (also (λ w h e. psetp-does cs (of 7) s)
+      (also (λ w h e. pset-does cs (of 8) s w)
+      (also (λ w h e. iadd-does cs (of 9) s (as-b e) w)
+      (also (λ w h e. iadd32i-does cs (of 10) s w)
+      (also (λ w h e. iadd3-does cs (of 11) s (as-b e) w)
+      (also (λ w h e. iscadd-does cs (of 12) s (as-b e))
+      (also (λ w h e. xmad-does cs (of 13) s (as-b e))
+      (also (λ w h e. imnmx-does cs (of 14) s (as-b e) w)
+      (also (λ w h e. icmp-does cs (of 15) s (as-b e) w)
+      (also (λ w h e. lop-does cs (of 16) s (as-b e) w)
+      (also (λ w h e. lop32i-does cs (of 17) s w)
+      (also (λ w h e. lop3Arm-does cs (of 18) s (as-b e) w)
+      (also (λ w h e. shl-does cs (of 19) s (as-b e) w)
+      (also (λ w h e. shr-does cs (of 20) s (as-b e) w)
+      (also (λ w h e. bfe-does cs (of 21) s (as-b e) w)
+      (also (λ w h e. bfi-does cs (of 22) s (as-b e) w)
+      (also (λ w h e. vmnmx-does cs (of 23) s w)
+      (also (λ w h e. i2i-does cs (of 24) s (as-b e) h w)
+      (also (λ w h e. flo-does cs (of 25) s (as-b e) w)
+      (also (λ w h e. popc-does cs (of 26) s (as-b e))
+      (also (λ w h e. r2p-does cs (of 27) s)
+      (also (λ w h e. p2r-does cs (of 28) s w)
+      (also (λ w h e. shf-does cs (of 29) s (as-b e) w)
+      (also (λ w h e. lea-does cs (of 30) s e w) tt)))))))))))))))))))))))))))))
 
   arms-miss : Each Misses kinds
-  unfolding Misses armOf sumArm bitArm wordArm mayRead reads
+  unfolding Misses armOf sumArm bitArm wordArm mayRead reads T.bits T.bit
   arms-miss =
-      also (λ e. mov-missing cs i s (as-b e))
+      also (λ e. mov-missing cs (of 1) s (as-b e))
       (also reads-none
-      (also (λ e. sel-missing cs i s (as-b e))
+      (also (λ e. sel-missing cs (of 3) s (as-b e))
       (also reads-none
-      (also (λ e. isetp-missing cs i s (as-b e))
-      (also (λ e. iset-missing cs i s (as-b e))
-      (also reads-none
-      (also reads-none
-      (also (λ e. iadd-missing cs i s (as-b e))
-      (also reads-none
-      (also (λ e. iadd3-missing cs i s (as-b e))
-      (also (λ e. iscadd-missing cs i s (as-b e))
-      (also (λ e. xmad-missing cs i s (as-b e))
-      (also (λ e. imnmx-missing cs i s (as-b e))
-      (also (λ e. icmp-missing cs i s (as-b e))
-      (also (λ e. lop-missing cs i s (as-b e))
-      (also reads-none
-      (also (λ e. lop3Arm-missing cs i s (as-b e))
-      (also (λ e. shl-missing cs i s (as-b e))
-      (also (λ e. shr-missing cs i s (as-b e))
-      (also (λ e. bfe-missing cs i s (as-b e))
-      (also (λ e. bfi-missing cs i s (as-b e))
-      (also reads-none
-      (also (λ e. i2i-missing cs i s (as-b e))
-      (also (λ e. flo-missing cs i s (as-b e))
-      (also (λ e. popc-missing cs i s (as-b e))
+      (also (λ e. isetp-missing cs (of 5) s (as-b e))
+      (also (λ e. iset-missing cs (of 6) s (as-b e))
       (also reads-none
       (also reads-none
-      (also (λ e. shf-missing cs i s (as-b e))
-      (also (λ e. lea-missing cs i s e) tt)))))))))))))))))))))))))))))
+      (also (λ e. iadd-missing cs (of 9) s (as-b e))
+      (also reads-none
+      (also (λ e. iadd3-missing cs (of 11) s (as-b e))
+      (also (λ e. iscadd-missing cs (of 12) s (as-b e))
+      (also (λ e. xmad-missing cs (of 13) s (as-b e))
+      (also (λ e. imnmx-missing cs (of 14) s (as-b e))
+      (also (λ e. icmp-missing cs (of 15) s (as-b e))
+      (also (λ e. lop-missing cs (of 16) s (as-b e))
+      (also reads-none
+      (also (λ e. lop3Arm-missing cs (of 18) s (as-b e))
+      (also (λ e. shl-missing cs (of 19) s (as-b e))
+      (also (λ e. shr-missing cs (of 20) s (as-b e))
+      (also (λ e. bfe-missing cs (of 21) s (as-b e))
+      (also (λ e. bfi-missing cs (of 22) s (as-b e))
+      (also reads-none
+      (also (λ e. i2i-missing cs (of 24) s (as-b e))
+      (also (λ e. flo-missing cs (of 25) s (as-b e))
+      (also (λ e. popc-missing cs (of 26) s (as-b e))
+      (also reads-none
+      (also reads-none
+      (also (λ e. shf-missing cs (of 29) s (as-b e))
+      (also (λ e. lea-missing cs (of 30) s e) tt)))))))))))))))))))))))))))))
 
-pub arm-does : (cs : List ℕ) (k : ℕ) (i : Insn) (s : State) → Proper cs s → known k ≡ true → byteThree k i ≡ false → reads k i && not (lent cs i) ≡ false
-    → final (sem cs (armOf k i) [] s) ≡ some (meant cs k i s)
-unfolding Does
-arm-does cs k i s w h = member (Does cs i s) kinds k (known-among k h) (arms-do cs i s) w
+module _ (cs : List ℕ) (i : Record) (s : State) where
+  pub arm-does : Proper cs s → known (i .kind) ≡ true → byteThree (i .kind) (insn i) ≡ false → reads i && not (lent cs i) ≡ false
+      → final (sem cs (armOf (i .kind) (insn i)) [] s) ≡ some (meant cs i s)
+  unfolding Does
+  arm-does w h = member (Does cs i s) kinds (i .kind) (known-among (i .kind) h) (arms-do cs i s) w
 
-pub arm-missing : (cs : List ℕ) (k : ℕ) (i : Insn) (s : State) → known k ≡ true → reads k i && not (lent cs i) ≡ true → sem cs (armOf k i) [] s ≡ halted NoConstant s
-unfolding Misses
-arm-missing cs k i s h = member (Misses cs i s) kinds k (known-among k h) (arms-miss cs i s)
+  pub arm-missing : known (i .kind) ≡ true → reads i && not (lent cs i) ≡ true → sem cs (armOf (i .kind) (insn i)) [] s ≡ halted NoConstant s
+  unfolding Misses
+  arm-missing h = member (Misses cs i s) kinds (i .kind) (known-among (i .kind) h) (arms-miss cs i s)

@@ -1,5 +1,5 @@
 -- Fields of a word, once for every offset and length: the entry that extracts, and the helpers that end in it.
-use mathlib.Core.Path.{_≡_, refl}
+use mathlib.Core.Path.{_≡_, refl, sym, ap, _∙_}
 use mathlib.Core.Bool.{Bool, true, false, cond}
 use mathlib.Core.List.{List, [], _∷_}
 use Prim.Native.Nat.{ℕ, _+_, _-_, _*_, _/_, _%_, _^_, _≤_, _<_}
@@ -7,6 +7,7 @@ use native.Mathlib.Omega.{arith}
 use lib.Dec.{ltb}
 use lib.IntN.{ℤ, pos, negsuc}
 use borrow.Author.Tests.{le-leb}
+use Rattle.evaluation.specs.declared.value.Value.{Value}
 use Rattle.evaluation.specs.declared.value.Value.the-variants.{Word}
 use Rattle.evaluation.specs.declared.state.State.{State}
 use Rattle.evaluation.specs.Word.{unaryWord, signExtended, extractWord}
@@ -16,7 +17,7 @@ use Rattle.evaluation.proofs.Fields.{low-bits}
 use Rattle.translation.specs.Helpers.{extract, field, half16}
 use Rattle.meaning.specs.Number.{signedOf, wordOf, field as fieldOf, extracted}
 use Rattle.meaning.specs.Operand.{half}
-use Rattle.meaning.proofs.Sem.{ran, sem}
+use Rattle.translation.proofs.Sem.{ran, sem}
 
 -- an integer wraps to a word
 pub word-lt : (z : ℤ) → wordOf z < 2 ^ 32
@@ -50,6 +51,20 @@ extract-is false x p n h =
     let l = low-bits (x / 2 ^ p) n (omega arith) in
     let e : fieldOf x p n % 2 ^ 32 ≡ fieldOf x p n = omega (arith, l .small, l .most) in
     rw (le-leb (p + n) 32 h, e) refl
+
+-- the field of offset 0 and length 32 is the word
+whole-extract : (sign : Bool) (x : ℕ) → x < 2 ^ 32 → extractWord (extractKind sign) x 0 32 ≡ Word x
+unfolding extractWord
+whole-extract true x h = let e : x / 2 ^ 0 % 2 ^ 32 ≡ x = omega arith in rw e (go (ltb (x * 2) (2 ^ 32)))
+  where
+    go : (b : Bool) → Word (cond b x (2 ^ 32 - 2 ^ 32 + x)) ≡ Word x
+    go true = refl
+    go false = let e : 2 ^ 32 - 2 ^ 32 + x ≡ x = omega arith in rw e refl
+whole-extract false x h = let e : x / 2 ^ 0 % 2 ^ 32 ≡ x = omega arith in rw e refl
+
+pub whole-word : (sign : Bool) (x : ℕ) → x < 2 ^ 32 → extracted sign x 0 32 ≡ x
+unfolding withWord
+whole-word sign x h = ap (λ (v : Value). withWord 0 v (λ y. y)) (sym (extract-is sign x 0 32 (omega arith)) ∙ whole-extract sign x h)
 
 module _ (cs : List ℕ) (s : State) where
   pub extract-sem : (sign : Bool) (x p n : ℕ) → p + n ≤ 32 → sem cs (extract sign) (Word x ∷ Word p ∷ Word n ∷ []) s ≡ ran s (Word (extracted sign x p n))

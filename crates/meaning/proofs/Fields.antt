@@ -13,13 +13,16 @@ use Rattle.evaluation.specs.declared.machine.Refusal.the-variants.{NoConstant}
 use Rattle.evaluation.specs.Word.{iSub, binaryWord, insertWord}
 use Rattle.evaluation.specs.Value.{withWord, binary, two, insertedValue}
 use Rattle.evaluation.specs.Machine.{fourEffect, valueAt, effectOf}
-use Rattle.translation.specs.Insn.{Insn, bit, rd, ra}
+use Rattle.translation.specs.Insn as T
+use Rattle.meaning.specs.Record.{Record, bit, rd, ra}
+use Rattle.meaning.proofs.Reading.{insn}
 use Rattle.translation.specs.Arms.{insertField, extractField, useField, fieldOf, bfe, bfiOf, bfiSwaps, bfiBc, bfi}
 use Rattle.meaning.specs.Number.{extracted, inserted}
 use Rattle.meaning.specs.Operand.{reg, setReg, operandB, firstOf, secondOf}
 use Rattle.meaning.specs.Meaning as M
-use Rattle.meaning.proofs.Sem.{ran, halted, sem}
-use Rattle.meaning.proofs.Helper.{Proper, reg-word, set-sem, srcB-sem, srcB-missing, srcBc-sem, srcBc-missing, missing, final, ra-sem, second-word}
+use Rattle.translation.proofs.Sem.{ran, halted, sem}
+use Rattle.translation.proofs.Stays.{Proper}
+use Rattle.meaning.proofs.Helper.{reg-word, set-sem, srcB-sem, srcB-missing, srcBc-sem, srcBc-missing, missing, final, ra-sem, second-word}
 use Rattle.meaning.proofs.Field.{extract-sem}
 use Rattle.meaning.proofs.Digits.{inserted-is}
 use Rattle.meaning.proofs.Reverse.{reverseIf-sem, reverseIf-word}
@@ -57,31 +60,31 @@ module _ (cs : List ℕ) (s : State) where
 
 -- ---- the arms
 
-module _ (cs : List ℕ) (i : Insn) (s : State) where
-  pub bfe-does : missing cs i ≡ false → Proper cs s → final (sem cs (bfe i) [] s) ≡ some (M.bfe cs i s)
-  unfolding bfe valueAt
+module _ (cs : List ℕ) (i : Record) (s : State) where
+  pub bfe-does : missing cs i ≡ false → Proper cs s → final (sem cs (bfe (insn i)) [] s) ≡ some (M.bfe cs i s)
+  unfolding bfe valueAt T.bits T.bit
   bfe-does h w =
       let ha = reg-word cs s (ra i) w in
       let a = M.reverseIf (bit i 40) (reg s (ra i)) in
       rw (ra-sem cs s i, srcB-sem cs s i h, reverseIf-sem cs s (bit i 40) (reg s (ra i)) ha)
       (rw (fieldOf-sem cs s false (bit i 48) a a (operandB cs i s) (reverseIf-word (bit i 40) (reg s (ra i)) ha), set-sem cs s) refl)
 
-  pub bfe-missing : missing cs i ≡ true → sem cs (bfe i) [] s ≡ halted NoConstant s
-  unfolding bfe valueAt
+  pub bfe-missing : missing cs i ≡ true → sem cs (bfe (insn i)) [] s ≡ halted NoConstant s
+  unfolding bfe valueAt T.bits T.bit
   bfe-missing h = rw (ra-sem cs s i, srcB-missing cs s i h) refl
 
   bfiOf-sem : (a b c : ℕ) → c < 2 ^ 32
-      → sem cs (bfiOf i) (Word a ∷ Word b ∷ Word c ∷ []) s ≡ ran (setReg s (rd i) (inserted c a (M.position b) (M.width b))) (Word (inserted c a (M.position b) (M.width b)))
-  unfolding bfiOf valueAt
+      → sem cs (bfiOf (insn i)) (Word a ∷ Word b ∷ Word c ∷ []) s ≡ ran (setReg s (rd i) (inserted c a (M.position b) (M.width b))) (Word (inserted c a (M.position b) (M.width b)))
+  unfolding bfiOf valueAt T.bits T.bit
   bfiOf-sem a b c h = rw (fieldOf-sem cs s true false c a b h, set-sem cs s) refl
 
-  pub bfi-does : missing cs i ≡ false → Proper cs s → final (sem cs (bfi i) [] s) ≡ some (M.bfi cs i s)
-  unfolding bfi bfiBc bfiSwaps valueAt
+  pub bfi-does : missing cs i ≡ false → Proper cs s → final (sem cs (bfi (insn i)) [] s) ≡ some (M.bfi cs i s)
+  unfolding bfi bfiBc bfiSwaps valueAt T.bits T.bit
   bfi-does h w =
       let swap = M.opcode i 21488 in
-      rw (ra-sem cs s i, srcBc-sem cs s i swap (bfiOf i) (reg s (ra i)) h)
+      rw (ra-sem cs s i, srcBc-sem cs s i swap (bfiOf (insn i)) (reg s (ra i)) h)
       (rw (bfiOf-sem (reg s (ra i)) (firstOf cs i swap s) (secondOf cs i swap s) (second-word cs s i swap w)) refl)
 
-  pub bfi-missing : missing cs i ≡ true → sem cs (bfi i) [] s ≡ halted NoConstant s
-  unfolding bfi bfiBc bfiSwaps valueAt
-  bfi-missing h = rw (ra-sem cs s i, srcBc-missing cs s i (M.opcode i 21488) (bfiOf i) (reg s (ra i)) h) refl
+  pub bfi-missing : missing cs i ≡ true → sem cs (bfi (insn i)) [] s ≡ halted NoConstant s
+  unfolding bfi bfiBc bfiSwaps valueAt T.bits T.bit
+  bfi-missing h = rw (ra-sem cs s i, srcBc-missing cs s i (M.opcode i 21488) (bfiOf (insn i)) (reg s (ra i)) h) refl

@@ -1,6 +1,6 @@
 -- What the helpers that fetch operands and store results do: registers, predicates, constants, flags.
 use mathlib.Core.Path.{_≡_, refl, _∙_}
-use mathlib.Core.Bool.{Bool, true, false, cond, not, _&&_, xor, true≢false}
+use mathlib.Core.Bool.{Bool, true, false, cond, not, _&&_, true≢false}
 use mathlib.Core.List.{List, [], _∷_}
 use mathlib.Core.Option.{Option, none, some}
 use Prim.Native.Nat.{ℕ, _+_, _-_, _*_, _/_, _%_, _^_, _<_}
@@ -16,24 +16,29 @@ use Rattle.evaluation.specs.declared.value.Value.the-variants.{Word, Truth}
 use Rattle.evaluation.specs.declared.state.State.{State}
 use Rattle.evaluation.specs.declared.machine.Refusal.the-variants.{NoConstant}
 use Rattle.evaluation.specs.Word.{notWord, unaryWord, binaryWord, compareWord}
-use Rattle.evaluation.specs.Value.{withWord, withTruth, withSlot, withAddress, unary, negated, binary, compared, two, chosen, three}
+use Rattle.evaluation.specs.Value.{withWord, withTruth, withSlot, withAddress, unary, binary, compared, two, chosen, three}
 use Rattle.evaluation.specs.State.{loaded, storedReg, storedPred, storedFlag}
 use Rattle.evaluation.specs.Machine.{storingWord, storingTruth, storing, addressWords, addressing, fetched, bareEffect, cellEffect, oneEffect, fourEffect, valueAt, effectOf}
-use Rattle.translation.specs.Insn.{Insn, bits, bit, ra, rb, rc, simm20, cslot, cword}
+use Rattle.translation.specs.Insn as T
+use Rattle.meaning.specs.Record.{Record, bits, bit, ra, rb, rc, simm20, constantSlot, constantWord}
+use Rattle.meaning.proofs.Reading.{insn}
 use Rattle.translation.specs.Code.{Code, ret, op, act, call, ite}
-use Rattle.translation.specs.Helpers.{r, set, logicalNotIf, predicate, p, setp, b2u, cbufAt, cbufImm, srcB, srcBc, inot, ineg, setCc, setCcNone}
+use Rattle.translation.specs.Helpers.{r, set, predicate, p, setp, b2u, cbufAt, cbufImm, srcB, srcBc, inot, ineg, setCc, setCcIf}
 use Rattle.translation.specs.Arms.{noteUnless}
-use Rattle.translation.proofs.InRange.{bits-lt, simm20-lt}
+use Rattle.meaning.proofs.Reading.{bits-lt, simm20-lt, simm20-same}
 use Rattle.meaning.specs.Number.{complement}
 use Rattle.meaning.specs.Operand.{reg, setReg, pred, setPred, setFlags, setZS, predIf, constantPlace, constant, operandB, firstOf, secondOf}
 use Rattle.meaning.specs.Meaning.{complementIf, negateIf, lent}
-use Rattle.meaning.proofs.Sem.{Ran, ran, halted, followed, sem}
+use Rattle.translation.proofs.Stays.{Proper}
+use Rattle.translation.proofs.Evaluated.{predicateOf}
+use Rattle.translation.proofs.Evaluated as Guard
+use Rattle.translation.proofs.Sem.{Ran, ran, halted, followed, sem}
 use Rattle.meaning.proofs.Order.{negative-is}
 
 -- ---- what an arm is held to
 
 -- the constant that the second operand names is not lent
-abbrev pub missing : List ℕ → Insn → Bool
+abbrev pub missing : List ℕ → Record → Bool
 missing cs i = eqb (i .form) 1 && not (lent cs i)
 
 -- the state that code ends in
@@ -41,12 +46,7 @@ abbrev pub final : Ran → Option State
 final (ran t v) = some t
 final (halted r t) = none
 
--- ---- states and constants of words
-
-pub record Proper (cs : List ℕ) (s : State) : Type 0 where
-  pub regs : (n : ℕ) → getD (s .regs) n 0 < 2 ^ 32
-  pub constants : (n : ℕ) → getD cs n 0 < 2 ^ 32
-  pub flags : length (s .flags) ≡ 4
+-- ---- words
 
 pub chosen-word : (b : Bool) (x y : ℕ) → x < 2 ^ 32 → y < 2 ^ 32 → cond b x y < 2 ^ 32
 chosen-word true x y hx hy = hx
@@ -65,13 +65,13 @@ module _ (cs : List ℕ) (s : State) where
   unfolding reg
   reg-word n w = chosen-word (eqb n 255) 0 (getD (s .regs) n 0) (omega arith) (w .regs n)
 
-  pub operand-word : (i : Insn) → Proper cs s → operandB cs i s < 2 ^ 32
+  pub operand-word : (i : Record) → Proper cs s → operandB cs i s < 2 ^ 32
   unfolding operandB
   operand-word i w =
       chosen-word (eqb (i .form) 0) _ _ (reg-word (rb i) w) (chosen-word (eqb (i .form) 1) (constant cs i) (simm20 i) (w .constants (constantPlace i)) (simm20-lt i))
 
   -- c, a register or a constant
-  pub second-word : (i : Insn) (swap : Bool) → Proper cs s → secondOf cs i swap s < 2 ^ 32
+  pub second-word : (i : Record) (swap : Bool) → Proper cs s → secondOf cs i swap s < 2 ^ 32
   unfolding secondOf
   second-word i swap w = chosen-word (eqb (i .form) 1 && swap) (constant cs i) (reg s (rc i)) (w .constants (constantPlace i)) (reg-word (rc i) w)
 
@@ -112,13 +112,13 @@ module _ (cs : List ℕ) (s : State) where
       go true e = refl
       go false e = let d = eqb-false k 255 e in rw (lt-ltb k 255 (omega arith)) refl
 
-  pub ra-sem : (i : Insn) → sem cs (r (ra i)) [] s ≡ ran s (Word (reg s (ra i)))
+  pub ra-sem : (i : Record) → sem cs (r (ra i)) [] s ≡ ran s (Word (reg s (ra i)))
   ra-sem i = r-sem (ra i) (bits-lt i 8 8)
 
-  pub rb-sem : (i : Insn) → sem cs (r (rb i)) [] s ≡ ran s (Word (reg s (rb i)))
+  pub rb-sem : (i : Record) → sem cs (r (rb i)) [] s ≡ ran s (Word (reg s (rb i)))
   rb-sem i = r-sem (rb i) (bits-lt i 20 8)
 
-  pub rc-sem : (i : Insn) → sem cs (r (rc i)) [] s ≡ ran s (Word (reg s (rc i)))
+  pub rc-sem : (i : Record) → sem cs (r (rc i)) [] s ≡ ran s (Word (reg s (rc i)))
   rc-sem i = r-sem (rc i) (bits-lt i 39 8)
 
   pub set-sem : (k w : ℕ) → sem cs (set k) (Word w ∷ []) s ≡ ran (setReg s k w) (Word w)
@@ -130,26 +130,14 @@ module _ (cs : List ℕ) (s : State) where
       go true = refl
       go false = refl
 
-  not-sem : (n t : Bool) → sem cs (logicalNotIf n) (Truth t ∷ []) s ≡ ran s (Truth (xor t n))
-  unfolding logicalNotIf effectOf oneEffect negated withTruth valueAt xor
-  not-sem true true = refl
-  not-sem true false = refl
-  not-sem false true = refl
-  not-sem false false = refl
-
   pub predicate-sem : (k : ℕ) → k < 8 → sem cs (predicate k) [] s ≡ ran s (Truth (pred s k))
-  unfolding predicate effectOf bareEffect cellEffect loaded valueAt pred
-  predicate-sem k h = go (eqb k 7) refl
-    where
-      go : (b : Bool) → eqb k 7 ≡ b
-          → sem cs (ite b (op (Of.Bare 2) (ret 0)) (op (Of.Cell 5 k) (ret 0))) [] s ≡ ran s (Truth (cond b true (getD (s .preds) k false)))
-      go true e = refl
-      go false e = let d = eqb-false k 7 e in rw (lt-ltb k 7 (omega arith)) refl
+  unfolding pred predicateOf
+  predicate-sem = Guard.predicate-sem cs s
 
   -- the predicate that the three bits from k on name, negated by bit n
-  pub p-sem : (i : Insn) (k n : ℕ) → sem cs (p (bits i k 3) (bit i n)) [] s ≡ ran s (Truth (predIf s (bits i k 3) (bit i n)))
-  unfolding p valueAt
-  p-sem i k n = rw (predicate-sem (bits i k 3) (bits-lt i k 3), not-sem (bit i n) (pred s (bits i k 3))) refl
+  pub p-sem : (i : Record) (k n : ℕ) → sem cs (p (bits i k 3) (bit i n)) [] s ≡ ran s (Truth (predIf s (bits i k 3) (bit i n)))
+  unfolding pred predicateOf
+  p-sem i k n = Guard.p-sem cs s (bits i k 3) (bit i n) (bits-lt i k 3)
 
   pub setp-sem : (k : ℕ) (t : Bool) → sem cs (setp k) (Truth t ∷ []) s ≡ ran (setPred s k t) (Truth t)
   unfolding setp setPred effectOf storing storingTruth withTruth storedPred valueAt
@@ -180,33 +168,33 @@ module _ (cs : List ℕ) (s : State) where
     unfolding cbufImm cbufAt effectOf cellEffect two binary binaryWord withWord withSlot withAddress oneEffect fourEffect addressing addressWords fetched valueAt
     cbuf-missing h = rw (vec-is, comp-is, le-ltb 4095 (w / 4) (omega arith), le-ltb 3 (w % 4) (omega arith), place-is, h) refl
 
-  module _ (i : Insn) where
-    pub constant-sem : lent cs i ≡ true → sem cs (cbufImm (cslot i) (cword i)) [] s ≡ ran s (Word (constant cs i))
-    constant-sem l = cbuf-lent (cslot i) (cword i) (bits-lt i 34 5) (bits-lt i 20 14) l
+  module _ (i : Record) where
+    pub constant-sem : lent cs i ≡ true → sem cs (cbufImm (constantSlot i) (constantWord i)) [] s ≡ ran s (Word (constant cs i))
+    constant-sem l = cbuf-lent (constantSlot i) (constantWord i) (bits-lt i 34 5) (bits-lt i 20 14) l
 
-    pub constant-missing : lent cs i ≡ false → sem cs (cbufImm (cslot i) (cword i)) [] s ≡ halted NoConstant s
-    constant-missing l = cbuf-missing (cslot i) (cword i) (bits-lt i 34 5) (bits-lt i 20 14) l
+    pub constant-missing : lent cs i ≡ false → sem cs (cbufImm (constantSlot i) (constantWord i)) [] s ≡ halted NoConstant s
+    constant-missing l = cbuf-missing (constantSlot i) (constantWord i) (bits-lt i 34 5) (bits-lt i 20 14) l
 
     -- ---- operands: b, missing where it is a constant that is not lent
 
-    pub srcB-sem : missing cs i ≡ false → sem cs (srcB i) [] s ≡ ran s (Word (operandB cs i s))
-    unfolding srcB operandB effectOf valueAt
+    pub srcB-sem : missing cs i ≡ false → sem cs (srcB (insn i)) [] s ≡ ran s (Word (operandB cs i s))
+    unfolding srcB operandB effectOf valueAt T.bits T.bit
     srcB-sem h = go (eqb (i .form) 0) (eqb (i .form) 1) (lent cs i) refl h
       where
         go : (a b c : Bool) → lent cs i ≡ c → b && not c ≡ false
-            → sem cs (ite a (r (rb i)) (ite b (cbufImm (cslot i) (cword i)) (op (Of.Word (simm20 i)) (ret 0)))) [] s
+            → sem cs (ite a (r (rb i)) (ite b (cbufImm (constantSlot i) (constantWord i)) (op (Of.Word (T.simm20 (insn i))) (ret 0)))) [] s
             ≡ ran s (Word (cond a (reg s (rb i)) (cond b (constant cs i) (simm20 i))))
         go true b c e h = rb-sem i
         go false true true e h = constant-sem e
         go false true false e h = absurd (true≢false h)
-        go false false c e h = refl
+        go false false c e h = rw (simm20-same i) refl
 
-    pub srcB-missing : missing cs i ≡ true → sem cs (srcB i) [] s ≡ halted NoConstant s
-    unfolding srcB
+    pub srcB-missing : missing cs i ≡ true → sem cs (srcB (insn i)) [] s ≡ halted NoConstant s
+    unfolding srcB T.bits T.bit
     srcB-missing h = go (i .form) refl h
       where
         go : (f : ℕ) → i .form ≡ f → eqb f 1 && not (lent cs i) ≡ true
-            → sem cs (ite (eqb f 0) (r (rb i)) (ite (eqb f 1) (cbufImm (cslot i) (cword i)) (op (Of.Word (simm20 i)) (ret 0)))) [] s ≡ halted NoConstant s
+            → sem cs (ite (eqb f 0) (r (rb i)) (ite (eqb f 1) (cbufImm (constantSlot i) (constantWord i)) (op (Of.Word (T.simm20 (insn i))) (ret 0)))) [] s ≡ halted NoConstant s
         go f q h = rw (eqb-true f 1 (and-left (eqb f 1) _ h)) (constant-missing (not-true (lent cs i) (and-right (eqb f 1) _ h)))
 
     -- b and c, and what follows with a, b and c
@@ -214,12 +202,12 @@ module _ (cs : List ℕ) (s : State) where
       -- the operands swapped, or not
       abbrev fetch : Bool → Code
       fetch b =
-          ite b (call (r (rc i)) [] (call (cbufImm (cslot i) (cword i)) [] (call k (0 ∷ 1 ∷ 2 ∷ []) (ret 3))))
-          (call (srcB i) [] (call (r (rc i)) [] (call k (0 ∷ 1 ∷ 2 ∷ []) (ret 3))))
+          ite b (call (r (rc i)) [] (call (cbufImm (constantSlot i) (constantWord i)) [] (call k (0 ∷ 1 ∷ 2 ∷ []) (ret 3))))
+          (call (srcB (insn i)) [] (call (r (rc i)) [] (call k (0 ∷ 1 ∷ 2 ∷ []) (ret 3))))
 
       pub srcBc-sem : missing cs i ≡ false
-          → sem cs (srcBc i swap k) (Word a ∷ []) s ≡ followed (sem cs k (Word a ∷ Word (firstOf cs i swap s) ∷ Word (secondOf cs i swap s) ∷ []) s) (λ t v. ran t v)
-      unfolding srcBc firstOf secondOf valueAt
+          → sem cs (srcBc (insn i) swap k) (Word a ∷ []) s ≡ followed (sem cs k (Word a ∷ Word (firstOf cs i swap s) ∷ Word (secondOf cs i swap s) ∷ []) s) (λ t v. ran t v)
+      unfolding srcBc firstOf secondOf valueAt T.bits T.bit
       srcBc-sem h = go (eqb (i .form) 1 && swap) refl
         where
           go : (b : Bool) → eqb (i .form) 1 && swap ≡ b
@@ -231,8 +219,8 @@ module _ (cs : List ℕ) (s : State) where
               rw (rc-sem i, constant-sem l) refl
           go false e = rw (srcB-sem h, rc-sem i) refl
 
-      pub srcBc-missing : missing cs i ≡ true → sem cs (srcBc i swap k) (Word a ∷ []) s ≡ halted NoConstant s
-      unfolding srcBc valueAt
+      pub srcBc-missing : missing cs i ≡ true → sem cs (srcBc (insn i) swap k) (Word a ∷ []) s ≡ halted NoConstant s
+      unfolding srcBc valueAt T.bits T.bit
       srcBc-missing h = go (eqb (i .form) 1 && swap)
         where
           go : (b : Bool) → sem cs (fetch b) (Word a ∷ []) s ≡ halted NoConstant s
@@ -281,11 +269,11 @@ module _ (cs : List ℕ) (s : State) (w : Proper cs s) where
 
   -- the flags of a result with its carry and overflow, or Z and S alone
   pub setCc-sem : (v : ℕ) (c o : Bool) → v < 2 ^ 32
-      → sem cs setCc (Word v ∷ Truth c ∷ Truth o ∷ []) s ≡ ran (setFlags s (eqb v 0) (leb (2 ^ 31) v) c o) (Word v)
+      → sem cs (setCc true true) (Word v ∷ Truth c ∷ Truth o ∷ []) s ≡ ran (setFlags s (eqb v 0) (leb (2 ^ 31) v) c o) (Word v)
   unfolding setCc effectOf bareEffect two compared compareWord withWord withTruth storing storingTruth valueAt
   setCc-sem v c o h = rw (negative-is v h, stored-flags (eqb v 0) (leb (2 ^ 31) v) c o) refl
 
-  pub setCcNone-sem : (on : Bool) (v : ℕ) → v < 2 ^ 32 → sem cs (setCcNone on) (Word v ∷ []) s ≡ ran (setZS on s v) (Word v)
-  unfolding setCcNone setZS effectOf bareEffect two compared compareWord withWord withTruth storing storingTruth valueAt
-  setCcNone-sem true v h = rw (negative-is v h, stored-flags (eqb v 0) (leb (2 ^ 31) v) false false) refl
-  setCcNone-sem false v h = refl
+  pub setCcIf-sem : (on : Bool) (v : ℕ) → v < 2 ^ 32 → sem cs (setCcIf on) (Word v ∷ []) s ≡ ran (setZS on s v) (Word v)
+  unfolding setCcIf setCc setZS effectOf bareEffect two compared compareWord withWord withTruth storing storingTruth valueAt
+  setCcIf-sem true v h = rw (negative-is v h, stored-flags (eqb v 0) (leb (2 ^ 31) v) false false) refl
+  setCcIf-sem false v h = refl

@@ -1,14 +1,12 @@
-pub mod Sem
-pub mod Strip
+pub mod Reading
 pub mod Order
 pub mod Helper
-pub mod Stays
+pub mod Moves
 pub mod Digits
 pub mod Reverse
 pub mod Field
 pub mod Clamp
 pub mod Carry
-pub mod Moves
 pub mod Compare
 pub mod Sums
 pub mod Product
@@ -24,3 +22,4 @@ pub mod Means
 pub mod Demand1
 pub mod Demand3
 pub mod Works
+pub mod Interpreted

@@ -14,15 +14,18 @@ use Rattle.evaluation.specs.declared.machine.Refusal.the-variants.{NoConstant}
 use Rattle.evaluation.specs.Word.{notWord, unaryWord, binaryWord, compareWord}
 use Rattle.evaluation.specs.Value.{withWord, unary, binary, compared, two}
 use Rattle.evaluation.specs.Machine.{bareEffect, oneEffect, valueAt, effectOf}
-use Rattle.translation.specs.Insn.{Insn, bits, bit, ra, rc, imm32}
+use Rattle.translation.specs.Insn as T
+use Rattle.meaning.specs.Record.{Record, bits, bit, ra, rc, imm32}
+use Rattle.meaning.proofs.Reading.{insn}
 use Rattle.translation.specs.Helpers.{lop3, lop3Row, lop3Rows, tableBit}
 use Rattle.translation.specs.Arms as A
-use Rattle.translation.proofs.InRange.{bits-lt}
+use Rattle.meaning.proofs.Reading.{bits-lt}
 use Rattle.meaning.specs.Number.{bitAt, fromBits, digit}
 use Rattle.meaning.specs.Operand.{reg, setPred, operandB}
 use Rattle.meaning.specs.Meaning as M
-use Rattle.meaning.proofs.Sem.{ran, halted, sem}
-use Rattle.meaning.proofs.Helper.{Proper, reg-word, operand-word, set-sem, setp-sem, srcB-sem, srcB-missing, missing, final, setCcNone-sem, inot-sem, ra-sem, rc-sem, complement-word, Gives, given, words}
+use Rattle.translation.proofs.Sem.{ran, halted, sem}
+use Rattle.translation.proofs.Stays.{Proper}
+use Rattle.meaning.proofs.Helper.{reg-word, operand-word, set-sem, setp-sem, srcB-sem, srcB-missing, missing, final, setCcIf-sem, inot-sem, ra-sem, rc-sem, complement-word, Gives, given, words}
 use Rattle.meaning.proofs.Digits.{from-lt, from-bits, bit-none, bit-and, bit-or, bit-xor, bit-not, digit-is}
 
 -- ---- two words
@@ -77,19 +80,19 @@ module _ (cs : List ℕ) (s : State) where
   unfolding setPred
   none-set n t e = rw e refl
 
-  lopPredicate-sem : (i : Insn) (v : ℕ) → sem cs (A.lopPredicate i) (Word v ∷ []) s ≡ ran (M.setTest i v s) (Word v)
-  unfolding A.lopPredicate M.setTest effectOf valueAt
+  lopPredicate-sem : (i : Record) (v : ℕ) → sem cs (A.lopPredicate (insn i)) (Word v ∷ []) s ≡ ran (M.setTest i v s) (Word v)
+  unfolding A.lopPredicate M.setTest effectOf valueAt T.bits T.bit
   lopPredicate-sem i v = go (eqb (bits i 48 3) 7) refl
     where
-      go : (b : Bool) → eqb (bits i 48 3) 7 ≡ b → sem cs (A.lopPredicate i) (Word v ∷ []) s ≡ ran (M.setTest i v s) (Word v)
+      go : (b : Bool) → eqb (bits i 48 3) 7 ≡ b → sem cs (A.lopPredicate (insn i)) (Word v ∷ []) s ≡ ran (M.setTest i v s) (Word v)
       go true e = rw (e, none-set (bits i 48 3) (testOf (bits i 44 2) v) e) refl
       go false e = rw (e, lopTest-sem (bits i 44 2) v, setp-sem cs s (bits i 48 3)) refl
 
 -- ---- the arms lop and lop32i
 
-module _ (cs : List ℕ) (i : Insn) (s : State) where
-  pub lop-does : missing cs i ≡ false → Proper cs s → final (sem cs (A.lop i) [] s) ≡ some (M.lop cs i s)
-  unfolding A.lop valueAt
+module _ (cs : List ℕ) (i : Record) (s : State) where
+  pub lop-does : missing cs i ≡ false → Proper cs s → final (sem cs (A.lop (insn i)) [] s) ≡ some (M.lop cs i s)
+  unfolding A.lop valueAt T.bits T.bit
   lop-does h w =
       let a = M.complementIf (bit i 39) (reg s (ra i)) in
       let b = M.complementIf (bit i 40) (operandB cs i s) in
@@ -102,17 +105,17 @@ module _ (cs : List ℕ) (i : Insn) (s : State) where
         inot-sem cs s (bit i 39),
         inot-sem cs s (bit i 40),
         lopWord-sem cs s (bits i 41 2) a b ha hb,
-        setCcNone-sem cs s w (bit i 47) (M.lopWord cs i s) hv,
+        setCcIf-sem cs s w (bit i 47) (M.lopWord cs i s) hv,
         lopPredicate-sem cs,
         set-sem cs,
       ) refl
 
-  pub lop-missing : missing cs i ≡ true → sem cs (A.lop i) [] s ≡ halted NoConstant s
-  unfolding A.lop
+  pub lop-missing : missing cs i ≡ true → sem cs (A.lop (insn i)) [] s ≡ halted NoConstant s
+  unfolding A.lop T.bits T.bit
   lop-missing h = rw (srcB-missing cs s i h) refl
 
-  pub lop32i-does : Proper cs s → final (sem cs (A.lop32i i) [] s) ≡ some (M.lop32i i s)
-  unfolding A.lop32i effectOf valueAt
+  pub lop32i-does : Proper cs s → final (sem cs (A.lop32i (insn i)) [] s) ≡ some (M.lop32i i s)
+  unfolding A.lop32i effectOf valueAt T.bits T.bit
   lop32i-does w =
       let a = M.complementIf (bit i 55) (reg s (ra i)) in
       let b = M.complementIf (bit i 56) (imm32 i) in
@@ -124,7 +127,7 @@ module _ (cs : List ℕ) (i : Insn) (s : State) where
         inot-sem cs s (bit i 55),
         inot-sem cs s (bit i 56),
         lopWord-sem cs s (bits i 53 2) a b ha hb,
-        setCcNone-sem cs s w (bit i 52) (M.lop32iWord i s) hv,
+        setCcIf-sem cs s w (bit i 52) (M.lop32iWord i s) hv,
         set-sem cs,
       ) refl
 
@@ -229,15 +232,15 @@ module _ (cs : List ℕ) (s : State) where
   lop3-sem lut a b c ha hb hc =
       rw (lop3Rows-sem lut 0, lop3Rows-sem lut 2, lop3Rows-sem lut 4, lop3Rows-sem lut 6) (ap (λ (z : ℕ). ran s (Word z)) (rows-are lut a b c ha hb hc))
 
-module _ (cs : List ℕ) (i : Insn) (s : State) where
-  pub lop3Arm-does : missing cs i ≡ false → Proper cs s → final (sem cs (A.lop3Arm i) [] s) ≡ some (M.lop3 cs i s)
-  unfolding A.lop3Arm A.lop3Table valueAt
+module _ (cs : List ℕ) (i : Record) (s : State) where
+  pub lop3Arm-does : missing cs i ≡ false → Proper cs s → final (sem cs (A.lop3Arm (insn i)) [] s) ≡ some (M.lop3 cs i s)
+  unfolding A.lop3Arm A.lop3Table valueAt T.bits T.bit
   lop3Arm-does h w =
       let ha = reg-word cs s (ra i) w in
       let hb = operand-word cs s i w in
       let hc = reg-word cs s (rc i) w in
       rw (ra-sem cs s i, srcB-sem cs s i h, rc-sem cs s i, lop3-sem cs s, set-sem cs) refl
 
-  pub lop3Arm-missing : missing cs i ≡ true → sem cs (A.lop3Arm i) [] s ≡ halted NoConstant s
-  unfolding A.lop3Arm valueAt
+  pub lop3Arm-missing : missing cs i ≡ true → sem cs (A.lop3Arm (insn i)) [] s ≡ halted NoConstant s
+  unfolding A.lop3Arm valueAt T.bits T.bit
   lop3Arm-missing h = rw (ra-sem cs s i, srcB-missing cs s i h) refl

@@ -17,12 +17,14 @@ use Rattle.evaluation.specs.declared.machine.Refusal.the-variants.{NoConstant}
 use Rattle.evaluation.specs.Word.{binaryWord}
 use Rattle.evaluation.specs.Value.{withWord, binary, two}
 use Rattle.evaluation.specs.Machine.{cellEffect, valueAt, effectOf}
-use Rattle.translation.specs.Insn.{Insn, bit, rd, ra, rc}
+use Rattle.translation.specs.Insn as T
+use Rattle.meaning.specs.Record.{Record, bit, rd, ra, rc}
+use Rattle.meaning.proofs.Reading.{insn}
 use Rattle.translation.specs.Arms.{xmadInC, xmadHigh, xmadSigned, xmadPsl, xmadMrg, xmadMode, xmadShift, xmadAlter, xmadMerge, xmadProduct, xmadOf, xmadSwaps, xmadBc, xmadFetch, xmad}
 use Rattle.meaning.specs.Number.{wordOf, extracted}
 use Rattle.meaning.specs.Operand.{reg, setReg, constant, secondOf}
 use Rattle.meaning.specs.Meaning as M
-use Rattle.meaning.proofs.Sem.{ran, halted, sem}
+use Rattle.translation.proofs.Sem.{ran, halted, sem}
 use Rattle.meaning.proofs.Helper.{set-sem, srcBc-sem, srcBc-missing, missing, final, ra-sem, rc-sem}
 use Rattle.meaning.proofs.Field.{half16-sem}
 
@@ -122,7 +124,7 @@ module _ (cs : List ℕ) (s : State) where
           ap₂ bitOr (and-mask v 16) e ∙ or-shifted-r (b % 2 ^ 16) 16 (v % 2 ^ 16) h ∙ omega arith
   xmadMerge-sem false v b = refl
 
-  module _ (i : Insn) where
+  module _ (i : Record) where
     -- in the constant form the opcode's value alone tells where the constant stands
     told : (m n : Bool) → cond (eqb (i .form) 1) (not (eqb (i .form) 1 && M.xmadSwaps i) && m) n ≡ cond (eqb (i .form) 1) (not (M.xmadSwaps i) && m) n
     told m n = go (eqb (i .form) 1)
@@ -131,30 +133,30 @@ module _ (cs : List ℕ) (s : State) where
         go true = refl
         go false = refl
 
-    shifts-is : xmadPsl i ≡ M.xmadShifts i
-    unfolding xmadPsl xmadInC xmadSwaps M.xmadShifts
+    shifts-is : xmadPsl (insn i) ≡ M.xmadShifts i
+    unfolding xmadPsl xmadInC xmadSwaps M.xmadShifts T.bits T.bit
     shifts-is = told (bit i 55) (bit i 36)
 
-    merges-is : xmadMrg i ≡ M.xmadMerges i
-    unfolding xmadMrg xmadInC xmadSwaps M.xmadMerges
+    merges-is : xmadMrg (insn i) ≡ M.xmadMerges i
+    unfolding xmadMrg xmadInC xmadSwaps M.xmadMerges T.bits T.bit
     merges-is = told (bit i 56) (bit i 37)
 
     abbrev product : ℕ → ℕ → ℤ
     product a b =
-        M.halfNumber (bit i 53) (bit i 48) a *ℤ M.halfNumber (xmadHigh i) (xmadSigned i) b *ℤ pos (cond (xmadPsl i) (2 ^ 16) 1)
+        M.halfNumber (bit i 53) (bit i 48) a *ℤ M.halfNumber (xmadHigh (insn i)) (xmadSigned (insn i)) b *ℤ pos (cond (xmadPsl (insn i)) (2 ^ 16) 1)
 
-    xmadProduct-sem : (a b : ℕ) → sem cs (xmadProduct i) (Word a ∷ Word b ∷ []) s ≡ ran s (Word (wordOf (product a b)))
-    unfolding xmadProduct extracted effectOf two binary binaryWord withWord valueAt
+    xmadProduct-sem : (a b : ℕ) → sem cs (xmadProduct (insn i)) (Word a ∷ Word b ∷ []) s ≡ ran s (Word (wordOf (product a b)))
+    unfolding xmadProduct extracted effectOf two binary binaryWord withWord valueAt T.bits T.bit
     xmadProduct-sem a b = rw (half16-sem cs s, half16-sem cs s, word-product, xmadShift-sem) refl
 
-    sum-is : (a b c : ℕ) → (wordOf (product a b) + M.altered (xmadMode i) c b) % 2 ^ 32 ≡ M.xmadSum i a b c
-    unfolding M.xmadSum M.xmadHighB M.xmadMode xmadHigh xmadSigned xmadMode
+    sum-is : (a b c : ℕ) → (wordOf (product a b) + M.altered (xmadMode (insn i)) c b) % 2 ^ 32 ≡ M.xmadSum i a b c
+    unfolding M.xmadSum M.xmadHighB M.xmadMode xmadHigh xmadSigned xmadMode T.bits T.bit
     sum-is a b c = rw (word-sum, shifts-is) refl
 
     xmadOf-sem : (a b c : ℕ)
-        → sem cs (xmadOf i) (Word a ∷ Word b ∷ Word c ∷ []) s
+        → sem cs (xmadOf (insn i)) (Word a ∷ Word b ∷ Word c ∷ []) s
         ≡ ran (setReg s (rd i) (M.merged (M.xmadMerges i) (M.xmadSum i a b c) b)) (Word (M.merged (M.xmadMerges i) (M.xmadSum i a b c) b))
-    unfolding xmadOf effectOf two binary binaryWord withWord valueAt
+    unfolding xmadOf effectOf two binary binaryWord withWord valueAt T.bits T.bit
     xmadOf-sem a b c = rw (xmadProduct-sem, xmadAlter-sem, sum-is, xmadMerge-sem, merges-is, set-sem cs s) refl
 
     -- in the immediate form b is sixteen bits, and c a register
@@ -169,28 +171,28 @@ module _ (cs : List ℕ) (s : State) where
       abbrev word : ℕ
       word = M.merged (M.xmadMerges i) (M.xmadSum i a (M.xmadB cs i s) (M.xmadC cs i s)) (M.xmadB cs i s)
 
-      xmadFetch-sem : missing cs i ≡ false → sem cs (xmadFetch i) (Word a ∷ []) s ≡ ran (setReg s (rd i) word) (Word word)
-      unfolding xmadFetch xmadBc xmadSwaps effectOf valueAt
+      xmadFetch-sem : missing cs i ≡ false → sem cs (xmadFetch (insn i)) (Word a ∷ []) s ≡ ran (setReg s (rd i) word) (Word word)
+      unfolding xmadFetch xmadBc xmadSwaps effectOf valueAt T.bits T.bit
       xmadFetch-sem h = go (eqb (i .form) 2) refl
         where
-          go : (f : Bool) → eqb (i .form) 2 ≡ f → sem cs (xmadFetch i) (Word a ∷ []) s ≡ ran (setReg s (rd i) word) (Word word)
+          go : (f : Bool) → eqb (i .form) 2 ≡ f → sem cs (xmadFetch (insn i)) (Word a ∷ []) s ≡ ran (setReg s (rd i) word) (Word word)
           go true e = rw (e, third-is e, rc-sem cs s i, xmadOf-sem) refl
-          go false e = rw (e, srcBc-sem cs s i (M.xmadSwaps i) (xmadOf i) a h, xmadOf-sem) refl
+          go false e = rw (e, srcBc-sem cs s i (M.xmadSwaps i) (xmadOf (insn i)) a h, xmadOf-sem) refl
 
-      xmadFetch-missing : missing cs i ≡ true → sem cs (xmadFetch i) (Word a ∷ []) s ≡ halted NoConstant s
-      unfolding xmadFetch xmadBc
+      xmadFetch-missing : missing cs i ≡ true → sem cs (xmadFetch (insn i)) (Word a ∷ []) s ≡ halted NoConstant s
+      unfolding xmadFetch xmadBc T.bits T.bit
       xmadFetch-missing h =
           let e = eqb-true (i .form) 1 (and-left (eqb (i .form) 1) _ h) in
-          rw (constant-form (i .form) e) (srcBc-missing cs s i (xmadSwaps i) (xmadOf i) a h)
+          rw (constant-form (i .form) e) (srcBc-missing cs s i (xmadSwaps (insn i)) (xmadOf (insn i)) a h)
         where
           constant-form : (f : ℕ) → f ≡ 1 → eqb f 2 ≡ false
           constant-form f q = rw q refl
 
-module _ (cs : List ℕ) (i : Insn) (s : State) where
-  pub xmad-does : missing cs i ≡ false → final (sem cs (xmad i) [] s) ≡ some (M.xmad cs i s)
-  unfolding xmad valueAt
+module _ (cs : List ℕ) (i : Record) (s : State) where
+  pub xmad-does : missing cs i ≡ false → final (sem cs (xmad (insn i)) [] s) ≡ some (M.xmad cs i s)
+  unfolding xmad valueAt T.bits T.bit
   xmad-does h = rw (ra-sem cs s i, xmadFetch-sem cs s i (reg s (ra i)) h) refl
 
-  pub xmad-missing : missing cs i ≡ true → sem cs (xmad i) [] s ≡ halted NoConstant s
-  unfolding xmad valueAt
+  pub xmad-missing : missing cs i ≡ true → sem cs (xmad (insn i)) [] s ≡ halted NoConstant s
+  unfolding xmad valueAt T.bits T.bit
   xmad-missing h = rw (ra-sem cs s i, xmadFetch-missing cs s i (reg s (ra i)) h) refl

@@ -11,7 +11,7 @@ use Rattle.evaluation.specs.Machine.{oneEffect, valueAt, effectOf}
 use Rattle.translation.specs.Arms.{reverseIf}
 use Rattle.meaning.specs.Number.{reversed}
 use Rattle.meaning.specs.Meaning as M
-use Rattle.meaning.proofs.Sem.{ran, sem}
+use Rattle.translation.proofs.Sem.{ran, sem}
 use Rattle.meaning.proofs.Digits.{from-lt, reversed-is}
 
 pub reverseIf-sem : (cs : List ℕ) (s : State) (on : Bool) (x : ℕ) → x < 2 ^ 32 → sem cs (reverseIf on) (Word x ∷ []) s ≡ ran s (Word (M.reverseIf on x))

@@ -18,16 +18,19 @@ use Rattle.evaluation.specs.declared.machine.Refusal.the-variants.{NoConstant}
 use Rattle.evaluation.specs.Word.{unaryWord, binaryWord, compareWord}
 use Rattle.evaluation.specs.Value.{withWord, withTruth, unary, binary, compared, two, chosen, three}
 use Rattle.evaluation.specs.Machine.{oneEffect, valueAt, effectOf}
-use Rattle.translation.specs.Insn.{Insn, bits, bit, rd, ra, rb, rc, cslot, cword}
+use Rattle.translation.specs.Insn as T
+use Rattle.meaning.specs.Record.{Record, bits, bit, rd, ra, rb, rc, constantSlot, constantWord}
+use Rattle.meaning.proofs.Reading.{insn}
 use Rattle.translation.specs.Code.{ite}
 use Rattle.translation.specs.Helpers.{r, srcB, cbufImm, shifted, shiftFill, shiftEnd, shift}
 use Rattle.translation.specs.Arms.{shl, shr, shfLeft, shfAmount, shfSelect, shfWord, shfOf, shf, leaReg, leaCbuf, leaHigh, leaB, leaShift, leaJoin, leaWord, leaNegates, lea}
-use Rattle.translation.proofs.InRange.{bits-lt}
+use Rattle.meaning.proofs.Reading.{bits-lt}
 use Rattle.meaning.specs.Number.{signedOf, numberOf, wordOf, divided}
 use Rattle.meaning.specs.Operand.{reg, setReg, constant, operandB}
 use Rattle.meaning.specs.Meaning as M
-use Rattle.meaning.proofs.Sem.{ran, halted, sem}
-use Rattle.meaning.proofs.Helper.{Proper, reg-word, set-sem, srcB-sem, srcB-missing, missing, final, select-is, ineg-sem, ra-sem, rb-sem, rc-sem, noteUnless-sem, negate-word, constant-sem, constant-missing}
+use Rattle.translation.proofs.Sem.{ran, halted, sem}
+use Rattle.translation.proofs.Stays.{Proper}
+use Rattle.meaning.proofs.Helper.{reg-word, set-sem, srcB-sem, srcB-missing, missing, final, select-is, ineg-sem, ra-sem, rb-sem, rc-sem, noteUnless-sem, negate-word, constant-sem, constant-missing}
 use Rattle.meaning.proofs.Reverse.{reverseIf-sem, reverseIf-word}
 use Rattle.meaning.proofs.Carry.{add-wrapped}
 use Rattle.meaning.proofs.Order.{umin-is}
@@ -129,25 +132,25 @@ module _ (cs : List ℕ) (s : State) where
       counted true = let m : min (b % 32) 32 ≡ b % 32 = omega arith in rw m refl
       counted false = below (ltb b 32) refl
 
-module _ (cs : List ℕ) (i : Insn) (s : State) where
-  pub shl-does : missing cs i ≡ false → Proper cs s → final (sem cs (shl i) [] s) ≡ some (M.shl cs i s)
-  unfolding shl valueAt
+module _ (cs : List ℕ) (i : Record) (s : State) where
+  pub shl-does : missing cs i ≡ false → Proper cs s → final (sem cs (shl (insn i)) [] s) ≡ some (M.shl cs i s)
+  unfolding shl valueAt T.bits T.bit
   shl-does h w =
       rw (ra-sem cs s i, srcB-sem cs s i h, shift-left cs s (bit i 39) _ _ (reg-word cs s (ra i) w), set-sem cs s) refl
 
-  pub shl-missing : missing cs i ≡ true → sem cs (shl i) [] s ≡ halted NoConstant s
-  unfolding shl valueAt
+  pub shl-missing : missing cs i ≡ true → sem cs (shl (insn i)) [] s ≡ halted NoConstant s
+  unfolding shl valueAt T.bits T.bit
   shl-missing h = rw (ra-sem cs s i, srcB-missing cs s i h) refl
 
-  pub shr-does : missing cs i ≡ false → Proper cs s → final (sem cs (shr i) [] s) ≡ some (M.shr cs i s)
-  unfolding shr valueAt
+  pub shr-does : missing cs i ≡ false → Proper cs s → final (sem cs (shr (insn i)) [] s) ≡ some (M.shr cs i s)
+  unfolding shr valueAt T.bits T.bit
   shr-does h w =
       let k = reg-word cs s (ra i) w in
       let l = reverseIf-word (bit i 40) (reg s (ra i)) k in
       rw (ra-sem cs s i, srcB-sem cs s i h, reverseIf-sem cs s _ _ k, shift-right cs s _ _ _ _ l, set-sem cs s) refl
 
-  pub shr-missing : missing cs i ≡ true → sem cs (shr i) [] s ≡ halted NoConstant s
-  unfolding shr valueAt
+  pub shr-missing : missing cs i ≡ true → sem cs (shr (insn i)) [] s ≡ halted NoConstant s
+  unfolding shr valueAt T.bits T.bit
   shr-missing h = rw (ra-sem cs s i, srcB-missing cs s i h) refl
 
 -- ---- shf: the double word, shifted
@@ -234,32 +237,32 @@ module _ (cs : List ℕ) (s : State) where
           rw (rest, shfSelect-sem)
           (ap (ran s) (ends-or hi lo hh hl false n _ h (λ p q. rw (lt-ltb n 32 q, lt-ltb (32 - n) 32 (omega arith), right-middle hi lo hh hl n q) refl)))
 
-  shfOf-sem : (i : Insn) (lo n hi : ℕ) → lo < 2 ^ 32 → hi < 2 ^ 32
-      → sem cs (shfOf i) (Word lo ∷ Word n ∷ Word hi ∷ []) s
-      ≡ ran (setReg s (rd i) (M.shifted (shfLeft i) hi lo (M.shfCount i n))) (Word (M.shifted (shfLeft i) hi lo (M.shfCount i n)))
-  unfolding shfOf effectOf valueAt
+  shfOf-sem : (i : Record) (lo n hi : ℕ) → lo < 2 ^ 32 → hi < 2 ^ 32
+      → sem cs (shfOf (insn i)) (Word lo ∷ Word n ∷ Word hi ∷ []) s
+      ≡ ran (setReg s (rd i) (M.shifted (shfLeft (insn i)) hi lo (M.shfCount i n))) (Word (M.shifted (shfLeft (insn i)) hi lo (M.shfCount i n)))
+  unfolding shfOf effectOf valueAt T.bits T.bit
   shfOf-sem i lo n hi hl hh =
-      rw (shfAmount-sem, shfWord-sem (shfLeft i) lo hi (M.shfCount i n) hl hh (count-le (bit i 50)), noteUnless-sem cs s, set-sem cs s) refl
+      rw (shfAmount-sem, shfWord-sem (shfLeft (insn i)) lo hi (M.shfCount i n) hl hh (count-le (bit i 50)), noteUnless-sem cs s, set-sem cs s) refl
     where
       count-le : (wrap : Bool) → cond wrap (n % 32) (min n 32) ≤ 32
       count-le true = omega arith
       count-le false = omega arith
 
-module _ (cs : List ℕ) (i : Insn) (s : State) where
-  pub shf-does : missing cs i ≡ false → Proper cs s → final (sem cs (shf i) [] s) ≡ some (M.shf cs i s)
-  unfolding shf valueAt shfLeft
+module _ (cs : List ℕ) (i : Record) (s : State) where
+  pub shf-does : missing cs i ≡ false → Proper cs s → final (sem cs (shf (insn i)) [] s) ≡ some (M.shf cs i s)
+  unfolding shf valueAt shfLeft T.bits T.bit
   shf-does h w =
       let k = reg-word cs s (ra i) w in
       let l = reg-word cs s (rc i) w in
       rw (ra-sem cs s i, srcB-sem cs s i h, rc-sem cs s i, shfOf-sem cs s i _ _ _ k l) refl
 
-  pub shf-missing : missing cs i ≡ true → sem cs (shf i) [] s ≡ halted NoConstant s
-  unfolding shf valueAt
+  pub shf-missing : missing cs i ≡ true → sem cs (shf (insn i)) [] s ≡ halted NoConstant s
+  unfolding shf valueAt T.bits T.bit
   shf-missing h = rw (ra-sem cs s i, srcB-missing cs s i h) refl
 
 -- ---- lea
 
-module _ (cs : List ℕ) (i : Insn) (s : State) where
+module _ (cs : List ℕ) (i : Record) (s : State) where
   -- c alone where nothing is shifted: the shift of a by 32, undefined, is not used
   leaJoin-sem : (n c a : ℕ) → n < 32 → c < 2 ^ 32 → a < 2 ^ 32
       → sem cs (leaJoin (eqb n 0)) (Word c ∷ binaryWord 43 c n ∷ binaryWord 44 a (32 - n) ∷ []) s ≡ ran s (Word (M.shifted true c a n))
@@ -271,9 +274,9 @@ module _ (cs : List ℕ) (i : Insn) (s : State) where
       go true e = rw (eqb-true n 0 e) (ap (λ (v : ℕ). ran s (Word v)) (at-0 c a hc ha true))
       go false e = let d = eqb-false n 0 e in rw (lt-ltb n 32 h, lt-ltb (32 - n) 32 (omega arith), left-middle c a hc ha n h) refl
 
-  count-lt : leaShift i < 32
-  unfolding leaShift
-  count-lt = go (leaReg i) (leaCbuf i)
+  count-lt : leaShift (insn i) < 32
+  unfolding leaShift T.bits T.bit
+  count-lt = go (leaReg (insn i)) (leaCbuf (insn i))
     where
       go : (a b : Bool) → cond a (bits i 28 5) (cond b (bits i 51 5) (bits i 39 5)) < 32
       go true b = bits-lt i 28 5
@@ -282,33 +285,33 @@ module _ (cs : List ℕ) (i : Insn) (s : State) where
 
   -- the shifted word, of the high form or the low one
   abbrev leaShifted : Bool → ℕ → ℕ
-  leaShifted t a = cond t (M.shifted true (reg s (rc i)) a (leaShift i)) (M.wrap (a * 2 ^ leaShift i))
+  leaShifted t a = cond t (M.shifted true (reg s (rc i)) a (leaShift (insn i))) (M.wrap (a * 2 ^ leaShift (insn i)))
 
   leaWord-sem : (a : ℕ) → a < 2 ^ 32 → Proper cs s
-      → sem cs (leaWord i) (Word a ∷ []) s ≡ ran s (Word (leaShifted (leaHigh i) a))
-  unfolding leaWord effectOf two binary withWord valueAt
-  leaWord-sem a h w = go (leaHigh i) refl
+      → sem cs (leaWord (insn i)) (Word a ∷ []) s ≡ ran s (Word (leaShifted (leaHigh (insn i)) a))
+  unfolding leaWord effectOf two binary withWord valueAt T.bits T.bit
+  leaWord-sem a h w = go (leaHigh (insn i)) refl
     where
-      go : (b : Bool) → leaHigh i ≡ b
-          → sem cs (leaWord i) (Word a ∷ []) s ≡ ran s (Word (leaShifted b a))
-      go true e = rw (e, rc-sem cs s i, leaJoin-sem (leaShift i) (reg s (rc i)) a count-lt (reg-word cs s (rc i) w) h) refl
-      go false e = rw (e, left-word a (leaShift i) count-lt) refl
+      go : (b : Bool) → leaHigh (insn i) ≡ b
+          → sem cs (leaWord (insn i)) (Word a ∷ []) s ≡ ran s (Word (leaShifted b a))
+      go true e = rw (e, rc-sem cs s i, leaJoin-sem (leaShift (insn i)) (reg s (rc i)) a count-lt (reg-word cs s (rc i) w) h) refl
+      go false e = rw (e, left-word a (leaShift (insn i)) count-lt) refl
 
   -- the constant is read by its opcode, else in the constant form unless the opcode names a register
-  leaB-sem : M.reads 30 i && not (M.lent cs i) ≡ false → sem cs (leaB i) [] s ≡ ran s (Word (M.leaB cs i s))
-  unfolding leaB leaReg leaCbuf M.reads
+  leaB-sem : M.leaReads i && not (M.lent cs i) ≡ false → sem cs (leaB (insn i)) [] s ≡ ran s (Word (M.leaB cs i s))
+  unfolding leaB leaReg leaCbuf T.bits T.bit
   leaB-sem h = go (M.leaReg i) (M.leaConstant i) (M.lent cs i) refl h
     where
       go : (a b c : Bool) → M.lent cs i ≡ c → (b || (not a && eqb (i .form) 1)) && not c ≡ false
-          → sem cs (ite a (r (rb i)) (ite b (cbufImm (cslot i) (cword i)) (srcB i))) [] s
+          → sem cs (ite a (r (rb i)) (ite b (cbufImm (constantSlot i) (constantWord i)) (srcB (insn i)))) [] s
           ≡ ran s (Word (cond a (reg s (rb i)) (cond b (constant cs i) (operandB cs i s))))
       go true b c e k = rb-sem cs s i
       go false true true e k = constant-sem cs s i e
       go false true false e k = absurd (true≢false k)
       go false false c e k = srcB-sem cs s i (rw e k)
 
-  leaB-missing : M.reads 30 i && not (M.lent cs i) ≡ true → sem cs (leaB i) [] s ≡ halted NoConstant s
-  unfolding leaB leaReg leaCbuf M.reads
+  leaB-missing : M.leaReads i && not (M.lent cs i) ≡ true → sem cs (leaB (insn i)) [] s ≡ halted NoConstant s
+  unfolding leaB leaReg leaCbuf T.bits T.bit
   leaB-missing h = go (M.leaReg i) (M.leaConstant i) (M.lent cs i) refl refl refl h
     where
       -- no opcode names both
@@ -316,7 +319,7 @@ module _ (cs : List ℕ) (i : Insn) (s : State) where
       both e f = let p = eqb-true (i .value) (23512 * 2 ^ 48) e in let q = eqb-true (i .value) (6144 * 2 ^ 48) f in omega arith
 
       go : (a b c : Bool) → M.leaReg i ≡ a → M.leaConstant i ≡ b → M.lent cs i ≡ c → (b || (not a && eqb (i .form) 1)) && not c ≡ true
-          → sem cs (ite a (r (rb i)) (ite b (cbufImm (cslot i) (cword i)) (srcB i))) [] s ≡ halted NoConstant s
+          → sem cs (ite a (r (rb i)) (ite b (cbufImm (constantSlot i) (constantWord i)) (srcB (insn i)))) [] s ≡ halted NoConstant s
       go true true c e f l k = absurd (both e f)
       go true false c e f l k = absurd (false≢true k)
       go false true true e f l k = absurd (false≢true k)
@@ -325,25 +328,25 @@ module _ (cs : List ℕ) (i : Insn) (s : State) where
 
   -- the sum, with a negated in the low form alone
   lea-is : (a b : ℕ)
-      → M.wrap (leaShifted (leaHigh i) (M.negateIf (leaNegates i) a) + b)
-      ≡ cond (leaHigh i) (M.wrap (M.shifted true (reg s (rc i)) a (leaShift i) + b)) (M.wrap (M.negateIf (bit i 45) a * 2 ^ leaShift i + b))
-  unfolding leaNegates M.negateIf
-  lea-is a b = go (leaHigh i) (bit i 45)
+      → M.wrap (leaShifted (leaHigh (insn i)) (M.negateIf (leaNegates (insn i)) a) + b)
+      ≡ cond (leaHigh (insn i)) (M.wrap (M.shifted true (reg s (rc i)) a (leaShift (insn i)) + b)) (M.wrap (M.negateIf (bit i 45) a * 2 ^ leaShift (insn i) + b))
+  unfolding leaNegates M.negateIf T.bits T.bit
+  lea-is a b = go (leaHigh (insn i)) (bit i 45)
     where
       go : (t n : Bool)
           → M.wrap (leaShifted t (M.negateIf (n && not t) a) + b)
-          ≡ cond t (M.wrap (M.shifted true (reg s (rc i)) a (leaShift i) + b)) (M.wrap (M.negateIf n a * 2 ^ leaShift i + b))
+          ≡ cond t (M.wrap (M.shifted true (reg s (rc i)) a (leaShift (insn i)) + b)) (M.wrap (M.negateIf n a * 2 ^ leaShift (insn i) + b))
       go true true = refl
       go true false = refl
-      go false n = let e : n && true ≡ n = and-true n in rw e (add-wrapped (M.negateIf n a * 2 ^ leaShift i) b)
+      go false n = let e : n && true ≡ n = and-true n in rw e (add-wrapped (M.negateIf n a * 2 ^ leaShift (insn i)) b)
 
-  pub lea-does : M.reads 30 i && not (M.lent cs i) ≡ false → Proper cs s → final (sem cs (lea i) [] s) ≡ some (M.lea cs i s)
-  unfolding lea effectOf two binary binaryWord withWord valueAt
+  pub lea-does : M.leaReads i && not (M.lent cs i) ≡ false → Proper cs s → final (sem cs (lea (insn i)) [] s) ≡ some (M.lea cs i s)
+  unfolding lea effectOf two binary binaryWord withWord valueAt T.bits T.bit
   lea-does h w =
-      let k = negate-word (leaNegates i) (reg s (ra i)) (reg-word cs s (ra i) w) in
+      let k = negate-word (leaNegates (insn i)) (reg s (ra i)) (reg-word cs s (ra i) w) in
       rw (ra-sem cs s i, leaB-sem h, ineg-sem cs s, leaWord-sem _ k w, lea-is, set-sem cs s)
       (unfold leaHigh leaShift leaReg leaCbuf in refl)
 
-  pub lea-missing : M.reads 30 i && not (M.lent cs i) ≡ true → sem cs (lea i) [] s ≡ halted NoConstant s
-  unfolding lea valueAt
+  pub lea-missing : M.leaReads i && not (M.lent cs i) ≡ true → sem cs (lea (insn i)) [] s ≡ halted NoConstant s
+  unfolding lea valueAt T.bits T.bit
   lea-missing h = rw (ra-sem cs s i, leaB-missing h) refl

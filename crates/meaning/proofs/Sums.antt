@@ -8,7 +8,6 @@ use native.Mathlib.Omega.{arith}
 use lib.Dec.{eqb, leb}
 use borrow.Author.Tests.{lt-ltb, eqb-true}
 use Rattle.strip.proofs.Tests.{and-left}
-use Rattle.strip.specs.declared.reader.Entry.the-variants as Of
 use Rattle.evaluation.specs.declared.value.Value.{Value}
 use Rattle.evaluation.specs.declared.value.Value.the-variants.{Word, Truth}
 use Rattle.evaluation.specs.declared.state.State.{State}
@@ -17,14 +16,17 @@ use Rattle.evaluation.specs.Word.{binaryWord, compareWord, logicTruth}
 use Rattle.evaluation.specs.Value.{withWord, withTruth, binary, compared, logic, two}
 use Rattle.evaluation.specs.State.{loaded}
 use Rattle.evaluation.specs.Machine.{cellEffect, valueAt, effectOf}
-use Rattle.translation.specs.Insn.{Insn, bits, bit, rd, ra, rb, rc, imm32}
-use Rattle.translation.specs.Helpers.{carryFlag, signedOverflow, setSumCc, addWithFlags, addWithCarry, saturateAdd, halfSelect}
-use Rattle.translation.specs.Arms.{prepared, addFlag, addOne, iaddSum, iaddOf, iadd, iadd32i, iadd3Count, iadd3Shift, iadd3Sum, iadd3Of, iadd3Fetch, iadd3, iscadd}
-use Rattle.translation.proofs.InRange.{bits-lt}
+use Rattle.translation.specs.Insn as T
+use Rattle.meaning.specs.Record.{Record, bits, bit, rd, ra, rb, rc, imm32}
+use Rattle.meaning.proofs.Reading.{insn}
+use Rattle.translation.specs.Helpers.{carryFlag, signedOverflow, setSumCc, addWithFlags, carryFlagSum, carryOneSum, carrySum, saturateAdd, halfSelect}
+use Rattle.translation.specs.Arms.{prepared, iaddOf, iadd, iadd32i, iadd3Count, iadd3Shift, iadd3Of, iadd3Fetch, iadd3, iscadd}
+use Rattle.meaning.proofs.Reading.{bits-lt}
 use Rattle.meaning.specs.Operand.{reg, flag, operandB, half}
 use Rattle.meaning.specs.Meaning as M
-use Rattle.meaning.proofs.Sem.{Ran, ran, halted, followed, sem}
-use Rattle.meaning.proofs.Helper.{Proper, reg-word, operand-word, set-sem, srcB-sem, srcB-missing, missing, final, select-is, setCc-sem, b2u-sem, inot-sem, ineg-sem, ra-sem, rb-sem, rc-sem, complement-word, negate-word, Gives, given, words, chosen-word}
+use Rattle.translation.proofs.Sem.{Ran, ran, halted, followed, sem}
+use Rattle.translation.proofs.Stays.{Proper}
+use Rattle.meaning.proofs.Helper.{reg-word, operand-word, set-sem, srcB-sem, srcB-missing, missing, final, select-is, setCc-sem, b2u-sem, inot-sem, ineg-sem, ra-sem, rb-sem, rc-sem, complement-word, negate-word, Gives, given, words, chosen-word}
 use Rattle.meaning.proofs.Field.{extracted-lt, half16-sem}
 use Rattle.meaning.proofs.Carry.{wrap-word, add-none, add-wrapped, carry-is, carry-none, overflow-is, clamp-is}
 
@@ -79,8 +81,8 @@ module _ (cs : List ℕ) (s : State) (a b k : ℕ) (ha : a < 2 ^ 32) (hb : b < 2
     setSumCc-sem true = rw (signedOverflow-sem, setCc-sem cs s w wrapped (leb (2 ^ 32) (M.total a b k)) (M.overflows a b k) (wrap-word (M.total a b k))) refl
     setSumCc-sem false = refl
 
-    addWithCarry-sem : (cc : Bool) → sem cs (addWithCarry cc) (Word a ∷ Word b ∷ Word k ∷ []) s ≡ ran (M.setSumFlags cc a b k s) (Word wrapped)
-    unfolding addWithCarry effectOf two binary binaryWord compared compareWord logic logicTruth withWord withTruth valueAt
+    addWithCarry-sem : (cc : Bool) → sem cs (addWithFlags true cc) (Word a ∷ Word b ∷ Word k ∷ []) s ≡ ran (M.setSumFlags cc a b k s) (Word wrapped)
+    unfolding addWithFlags effectOf two binary binaryWord compared compareWord logic logicTruth withWord withTruth valueAt
     addWithCarry-sem cc = rw (carry-is a b k ha hb hk, add-wrapped (a + b) k, setSumCc-sem cc) refl
 
 module _ (cs : List ℕ) (s : State) (a b : ℕ) (ha : a < 2 ^ 32) (hb : b < 2 ^ 32) (w : Proper cs s) where
@@ -88,33 +90,29 @@ module _ (cs : List ℕ) (s : State) (a b : ℕ) (ha : a < 2 ^ 32) (hb : b < 2 ^
   abbrev summed : Bool → ℕ → Ran
   summed cc k = ran (M.setSumFlags cc a b k s) (Word (M.wrap (M.total a b k)))
 
-  addWithFlags-sem : (cc : Bool) → sem cs (addWithFlags cc) (Word a ∷ Word b ∷ []) s ≡ summed cc 0
+  addWithFlags-sem : (cc : Bool) → sem cs (addWithFlags false cc) (Word a ∷ Word b ∷ []) s ≡ summed cc 0
   unfolding addWithFlags M.setSumFlags effectOf two binary binaryWord compared compareWord withWord valueAt
   addWithFlags-sem true =
       let h = rw (add-none a b) at (setSumCc-sem cs s a b 0 ha hb (omega arith) w true) in rw (add-none a b, carry-none a b ha hb, h) refl
   addWithFlags-sem false = rw (add-none a b) refl
 
-  addFlag-sem : (cc : Bool) → sem cs (addFlag cc) (Word a ∷ Word b ∷ []) s ≡ summed cc (M.carryOf s)
-  unfolding addFlag valueAt
-  addFlag-sem cc = rw (carryFlag-sem cs s, addWithCarry-sem cs s a b (M.carryOf s) ha hb (one-small (flag s 2)) w cc) refl
+  carryFlagSum-sem : (cc : Bool) → sem cs (carryFlagSum cc) (Word a ∷ Word b ∷ []) s ≡ summed cc (M.carryOf s)
+  unfolding carryFlagSum valueAt
+  carryFlagSum-sem cc = rw (carryFlag-sem cs s, addWithCarry-sem cs s a b (M.carryOf s) ha hb (one-small (flag s 2)) w cc) refl
 
-  addOne-sem : (cc : Bool) → sem cs (addOne cc) (Word a ∷ Word b ∷ []) s ≡ summed cc 1
-  unfolding addOne effectOf valueAt
-  addOne-sem cc = rw (addWithCarry-sem cs s a b 1 ha hb (omega arith) w cc) refl
+  carryOneSum-sem : (cc : Bool) → sem cs (carryOneSum cc) (Word a ∷ Word b ∷ []) s ≡ summed cc 1
+  unfolding carryOneSum effectOf valueAt
+  carryOneSum-sem cc = rw (addWithCarry-sem cs s a b 1 ha hb (omega arith) w cc) refl
 
-  iaddSum-sem : (x na nb cc : Bool) → sem cs (iaddSum x (not (Bool·beq na nb)) cc) (Word a ∷ Word b ∷ []) s ≡ summed cc (M.carryIn x na nb s)
-  unfolding iaddSum M.carryIn xor
-  iaddSum-sem true na nb cc = addFlag-sem cc
-  iaddSum-sem false na nb cc = go (not (Bool·beq na nb))
-    where
-      go : (one : Bool) → sem cs (iaddSum false one cc) (Word a ∷ Word b ∷ []) s ≡ summed cc (cond one 1 0)
-      go true = addOne-sem cc
-      go false = addWithFlags-sem cc
+  carrySum-sem : (x one cc : Bool) → sem cs (carrySum x one cc) (Word a ∷ Word b ∷ []) s ≡ summed cc (cond x (M.carryOf s) (cond one 1 0))
+  unfolding carrySum
+  carrySum-sem true one cc = carryFlagSum-sem cc
+  carrySum-sem false true cc = carryOneSum-sem cc
+  carrySum-sem false false cc = addWithFlags-sem cc
 
-  iadd3Sum-sem : (x cc : Bool) → sem cs (iadd3Sum x cc) (Word a ∷ Word b ∷ []) s ≡ summed cc (cond x (M.carryOf s) 0)
-  unfolding iadd3Sum
-  iadd3Sum-sem true cc = addFlag-sem cc
-  iadd3Sum-sem false cc = addWithFlags-sem cc
+  iaddSum-sem : (x na nb cc : Bool) → sem cs (carrySum x (not (Bool·beq na nb)) cc) (Word a ∷ Word b ∷ []) s ≡ summed cc (M.carryIn x na nb s)
+  unfolding M.carryIn xor
+  iaddSum-sem x na nb cc = carrySum-sem x (not (Bool·beq na nb)) cc
 
 -- ---- iadd, iadd32i
 
@@ -140,19 +138,19 @@ module _ (cs : List ℕ) (s : State) (w : Proper cs s) (a b : ℕ) (ha : a < 2 ^
       rw (prepared-sem cs s x na nb na a, prepared-sem cs s x na nb nb b, iaddSum-sem cs s first second ka kb w x na nb cc)
       (rw (saturateAdd-sem cs t first second carry ka kb kc sat, set-sem cs t d) refl)
 
-module _ (cs : List ℕ) (i : Insn) (s : State) where
-  pub iadd-does : missing cs i ≡ false → Proper cs s → final (sem cs (iadd i) [] s) ≡ some (M.iadd cs i s)
-  unfolding iadd valueAt
+module _ (cs : List ℕ) (i : Record) (s : State) where
+  pub iadd-does : missing cs i ≡ false → Proper cs s → final (sem cs (iadd (insn i)) [] s) ≡ some (M.iadd cs i s)
+  unfolding iadd valueAt T.bits T.bit
   iadd-does h w =
       let e = iaddOf-sem cs s w (reg s (ra i)) (operandB cs i s) (reg-word cs s (ra i) w) (operand-word cs s i w) in
       rw (ra-sem cs s i, srcB-sem cs s i h, e (rd i) (bit i 49) (bit i 48) (bit i 43) (bit i 47) (bit i 50)) refl
 
-  pub iadd-missing : missing cs i ≡ true → sem cs (iadd i) [] s ≡ halted NoConstant s
-  unfolding iadd valueAt
+  pub iadd-missing : missing cs i ≡ true → sem cs (iadd (insn i)) [] s ≡ halted NoConstant s
+  unfolding iadd valueAt T.bits T.bit
   iadd-missing h = rw (ra-sem cs s i, srcB-missing cs s i h) refl
 
-  pub iadd32i-does : Proper cs s → final (sem cs (iadd32i i) [] s) ≡ some (M.iadd32i i s)
-  unfolding iadd32i effectOf valueAt
+  pub iadd32i-does : Proper cs s → final (sem cs (iadd32i (insn i)) [] s) ≡ some (M.iadd32i i s)
+  unfolding iadd32i effectOf valueAt T.bits T.bit
   iadd32i-does w =
       let e = iaddOf-sem cs s w (reg s (ra i)) (imm32 i) (reg-word cs s (ra i) w) (bits-lt i 20 32) in
       rw (ra-sem cs s i, e (rd i) (bit i 56) false (bit i 53) (bit i 52) (bit i 54)) refl
@@ -165,7 +163,7 @@ halfOf code x = cond (eqb code 1) (half false false x) (cond (eqb code 2) (half 
 half-word : (code x : ℕ) → x < 2 ^ 32 → halfOf code x < 2 ^ 32
 half-word code x h = chosen-word (eqb code 1) _ _ (extracted-lt false x 0 16) (chosen-word (eqb code 2) _ _ (extracted-lt false x 16 16) h)
 
-part-word : (i : Insn) (code x : ℕ) → x < 2 ^ 32 → M.part i code x < 2 ^ 32
+part-word : (i : Record) (code x : ℕ) → x < 2 ^ 32 → M.part i code x < 2 ^ 32
 unfolding M.part
 part-word i code x h = chosen-word (eqb (i .form) 0) (halfOf code x) x (half-word code x h) h
 
@@ -173,18 +171,18 @@ part-word i code x h = chosen-word (eqb (i .form) 0) (halfOf code x) x (half-wor
 abbrev shiftedBy : ℕ → ℕ → ℕ
 shiftedBy n x = cond (eqb n 1) (x / 2 ^ 16) (cond (eqb n 2) (M.wrap (x * 2 ^ 16)) x)
 
-shifted-is : (i : Insn) (x : ℕ) → shiftedBy (iadd3Count i) x ≡ M.partSum i x
-unfolding iadd3Count M.partSum
+shifted-is : (i : Record) (x : ℕ) → shiftedBy (iadd3Count (insn i)) x ≡ M.partSum i x
+unfolding iadd3Count M.partSum T.bits T.bit
 shifted-is i x = go (eqb (i .form) 0)
   where
     go : (t : Bool) → shiftedBy (cond t (bits i 37 2) 0) x ≡ cond t (shiftedBy (bits i 37 2) x) x
     go true = refl
     go false = refl
 
-partSum-word : (i : Insn) (x : ℕ) → x < 2 ^ 32 → M.partSum i x < 2 ^ 32
+partSum-word : (i : Record) (x : ℕ) → x < 2 ^ 32 → M.partSum i x < 2 ^ 32
 partSum-word i x h =
     rw (← shifted-is i x)
-    (chosen-word (eqb (iadd3Count i) 1) (x / 2 ^ 16) _ (omega arith) (chosen-word (eqb (iadd3Count i) 2) (M.wrap (x * 2 ^ 16)) x (wrap-word (x * 2 ^ 16)) h))
+    (chosen-word (eqb (iadd3Count (insn i)) 1) (x / 2 ^ 16) _ (omega arith) (chosen-word (eqb (iadd3Count (insn i)) 2) (M.wrap (x * 2 ^ 16)) x (wrap-word (x * 2 ^ 16)) h))
 
 module _ (cs : List ℕ) (s : State) where
   halfSelect-sem : (code x : ℕ) → sem cs (halfSelect code) (Word x ∷ []) s ≡ ran s (Word (halfOf code x))
@@ -202,14 +200,14 @@ module _ (cs : List ℕ) (s : State) where
       all = words _ (given refl) (words _ (given refl) (given refl))
 
 -- b in the register form
-operand-reg : (cs : List ℕ) (i : Insn) (s : State) → eqb (i .form) 0 ≡ true → operandB cs i s ≡ reg s (rb i)
+operand-reg : (cs : List ℕ) (i : Record) (s : State) → eqb (i .form) 0 ≡ true → operandB cs i s ≡ reg s (rb i)
 unfolding operandB
 operand-reg cs i s e = rw e refl
 
 not-reg : (form : ℕ) → eqb form 1 ≡ true → eqb form 0 ≡ false
 not-reg form e = rw (eqb-true form 1 e) refl
 
-module _ (cs : List ℕ) (i : Insn) (s : State) where
+module _ (cs : List ℕ) (i : Record) (s : State) where
   module _ (w : Proper cs s) (a b c : ℕ) (hc : c < 2 ^ 32) where
     abbrev firstTwo : ℕ
     firstTwo = M.wrap (M.negateIf (bit i 51) a + M.negateIf (bit i 50) b)
@@ -223,52 +221,52 @@ module _ (cs : List ℕ) (i : Insn) (s : State) where
     abbrev carry3 : ℕ
     carry3 = cond (bit i 48) (M.carryOf s) 0
 
-    iadd3Of-sem : sem cs (iadd3Of i) (Word a ∷ Word b ∷ Word c ∷ []) s
+    iadd3Of-sem : sem cs (iadd3Of (insn i)) (Word a ∷ Word b ∷ Word c ∷ []) s
         ≡ ran (M.added (rd i) (bit i 47) false firstSum third carry3 s) (Word (M.wrap (M.total firstSum third carry3)))
-    unfolding iadd3Of M.added effectOf two binary binaryWord withWord valueAt
+    unfolding iadd3Of M.added effectOf two binary binaryWord withWord valueAt T.bits T.bit
     iadd3Of-sem =
         let ka = partSum-word i firstTwo (wrap-word (M.negateIf (bit i 51) a + M.negateIf (bit i 50) b)) in
-        rw (ineg-sem cs s (bit i 51) a, ineg-sem cs s (bit i 50) b, ineg-sem cs s (bit i 49) c, iadd3Shift-sem cs s (iadd3Count i), shifted-is i)
-        (rw (iadd3Sum-sem cs s firstSum third ka (negate-word (bit i 49) c hc) w (bit i 48) (bit i 47), set-sem cs) refl)
+        rw (ineg-sem cs s (bit i 51) a, ineg-sem cs s (bit i 50) b, ineg-sem cs s (bit i 49) c, iadd3Shift-sem cs s (iadd3Count (insn i)), shifted-is i)
+        (rw (carrySum-sem cs s firstSum third ka (negate-word (bit i 49) c hc) w (bit i 48) false (bit i 47), set-sem cs) refl)
 
   -- b and c are read, and in the register form halves taken
   module _ (a : ℕ) where
     abbrev parts : List Value
     parts = Word (M.part i (bits i 35 2) a) ∷ Word (M.part i (bits i 33 2) (operandB cs i s)) ∷ Word (M.part i (bits i 31 2) (reg s (rc i))) ∷ []
 
-    iadd3Fetch-sem : missing cs i ≡ false → sem cs (iadd3Fetch i) (Word a ∷ []) s ≡ followed (sem cs (iadd3Of i) parts s) (λ t v. ran t v)
-    unfolding iadd3Fetch M.part valueAt
+    iadd3Fetch-sem : missing cs i ≡ false → sem cs (iadd3Fetch (insn i)) (Word a ∷ []) s ≡ followed (sem cs (iadd3Of (insn i)) parts s) (λ t v. ran t v)
+    unfolding iadd3Fetch M.part valueAt T.bits T.bit
     iadd3Fetch-sem h = go (eqb (i .form) 0) refl
       where
-        go : (t : Bool) → eqb (i .form) 0 ≡ t → sem cs (iadd3Fetch i) (Word a ∷ []) s ≡ followed (sem cs (iadd3Of i) parts s) (λ t v. ran t v)
+        go : (t : Bool) → eqb (i .form) 0 ≡ t → sem cs (iadd3Fetch (insn i)) (Word a ∷ []) s ≡ followed (sem cs (iadd3Of (insn i)) parts s) (λ t v. ran t v)
         go true e =
             rw (e, rb-sem cs s i, rc-sem cs s i, operand-reg cs i s e)
             (rw (halfSelect-sem cs s (bits i 35 2), halfSelect-sem cs s (bits i 33 2), halfSelect-sem cs s (bits i 31 2)) refl)
         go false e = rw (e, srcB-sem cs s i h, rc-sem cs s i) refl
 
-    iadd3Fetch-missing : missing cs i ≡ true → sem cs (iadd3Fetch i) (Word a ∷ []) s ≡ halted NoConstant s
-    unfolding iadd3Fetch valueAt
+    iadd3Fetch-missing : missing cs i ≡ true → sem cs (iadd3Fetch (insn i)) (Word a ∷ []) s ≡ halted NoConstant s
+    unfolding iadd3Fetch valueAt T.bits T.bit
     iadd3Fetch-missing h = rw (not-reg (i .form) (and-left (eqb (i .form) 1) _ h), srcB-missing cs s i h) refl
 
-  pub iadd3-does : missing cs i ≡ false → Proper cs s → final (sem cs (iadd3 i) [] s) ≡ some (M.iadd3 cs i s)
-  unfolding iadd3 valueAt
+  pub iadd3-does : missing cs i ≡ false → Proper cs s → final (sem cs (iadd3 (insn i)) [] s) ≡ some (M.iadd3 cs i s)
+  unfolding iadd3 valueAt T.bits T.bit
   iadd3-does h w =
       let hc = part-word i (bits i 31 2) (reg s (rc i)) (reg-word cs s (rc i) w) in
       rw (ra-sem cs s i, iadd3Fetch-sem (reg s (ra i)) h, iadd3Of-sem w _ _ _ hc) refl
 
-  pub iadd3-missing : missing cs i ≡ true → sem cs (iadd3 i) [] s ≡ halted NoConstant s
-  unfolding iadd3 valueAt
+  pub iadd3-missing : missing cs i ≡ true → sem cs (iadd3 (insn i)) [] s ≡ halted NoConstant s
+  unfolding iadd3 valueAt T.bits T.bit
   iadd3-missing h = rw (ra-sem cs s i, iadd3Fetch-missing (reg s (ra i)) h) refl
 
 -- ---- iscadd
 
-module _ (cs : List ℕ) (i : Insn) (s : State) where
-  pub iscadd-does : missing cs i ≡ false → final (sem cs (iscadd i) [] s) ≡ some (M.iscadd cs i s)
-  unfolding iscadd effectOf two binary binaryWord withWord valueAt
+module _ (cs : List ℕ) (i : Record) (s : State) where
+  pub iscadd-does : missing cs i ≡ false → final (sem cs (iscadd (insn i)) [] s) ≡ some (M.iscadd cs i s)
+  unfolding iscadd effectOf two binary binaryWord withWord valueAt T.bits T.bit
   iscadd-does h =
       rw (ra-sem cs s i, ineg-sem cs s, srcB-sem cs s i h, ineg-sem cs s, lt-ltb (bits i 39 5) 32 (bits-lt i 39 5))
       (rw (add-wrapped (M.negateIf (bit i 49) (reg s (ra i)) * 2 ^ bits i 39 5), set-sem cs s) refl)
 
-  pub iscadd-missing : missing cs i ≡ true → sem cs (iscadd i) [] s ≡ halted NoConstant s
-  unfolding iscadd valueAt
+  pub iscadd-missing : missing cs i ≡ true → sem cs (iscadd (insn i)) [] s ≡ halted NoConstant s
+  unfolding iscadd valueAt T.bits T.bit
   iscadd-missing h = rw (ra-sem cs s i, ineg-sem cs s, srcB-missing cs s i h) refl

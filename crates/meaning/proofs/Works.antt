@@ -1,12 +1,12 @@
 -- The two works do what they must, from every state: by the meanings of their records, through the strips of these.
 use mathlib.Core.Path.{_≡_, refl, sym, ap, _∙_}
 use mathlib.Core.Logic.{_≢_}
-use mathlib.Core.Bool.{Bool, true, false, cond, not, _&&_, xor}
+use mathlib.Core.Bool.{Bool, true, false, cond, _&&_, xor}
 use mathlib.Core.List.{List}
 use Prim.Native.Nat.{ℕ, zero, suc, _+_, _*_, _/_, _%_, _^_, _-_, _<_}
 use native.Mathlib.Omega.{arith}
 use lib.Dec.{eqb, ltb, leb}
-use lib.ListN.{length, getD, length-set}
+use lib.ListN.{length, length-set}
 use lib.Seq.{getD-set-same, getD-set-other}
 use borrow.Author.Tests.{leb-true, leb-false}
 use Rattle.strip.proofs.Run.{Each}
@@ -14,16 +14,19 @@ use Rattle.evaluation.specs.declared.state.State.{State}
 use Rattle.evaluation.specs.declared.machine.Outcome.the-variants.{Done}
 use Rattle.evaluation.specs.declared.machine.Evaluated.{Evaluated}
 use Rattle.evaluation.specs.Machine.{onward, ends, evaluated}
-use Rattle.translation.specs.Insn.{bits, bit, simm20}
-use Rattle.translation.specs.Strip.{insnOf, known, laneMov, byteThree, admits}
-use Rattle.meaning.specs.Number.{bitAt, fromBits, inserted}
+use Rattle.translation.specs.Insn as T
+use Rattle.translation.specs.Strip.{known, laneMov, byteThree, admits}
+use Rattle.meaning.specs.Number.{signedOf, wordOf, bitAt, fromBits, inserted}
 use Rattle.meaning.specs.Operand.{reg, setReg, pred, flag, setFlags, operandB}
-use Rattle.meaning.specs.Meaning.{carryOf, overflows, complementIf, negateIf, prepared, carryIn, setSumFlags, added, sum, cellBit, packed, meant, meaning, reads, lent}
-use Rattle.meaning.specs.Run.{unlent, meanings, stripsOf}
-use Rattle.meaning.specs.Works.{countLow, countHigh, countRecords, counted, Counts, repeated, conditionsSum, conditionsPack, conditionsRecords, sumFlags, Packs}
-use Rattle.meaning.proofs.Helper.{Proper, reg-word}
+use Rattle.meaning.specs.Meaning.{carryOf, overflows, complementIf, negateIf, prepared, carryIn, setSumFlags, added, sum, cellBit, packed, meant, meaning, reads}
+use Rattle.meaning.specs.Record.{numberAt, recordOf, simm20}
+use Rattle.meaning.specs.Interpret.{unlent, meanings}
+use Rattle.translation.specs.Turn.{stripsOf}
+use Rattle.meaning.specs.Works.{countLow, countHigh, countRecords, counted, Counts, conditionsSum, conditionsPack, conditionsRecords, sumFlags, Packs}
+use Rattle.translation.proofs.Stays.{Proper}
+use Rattle.meaning.proofs.Helper.{reg-word}
 use Rattle.meaning.proofs.Digits.{from-lt, bit-from, inserted-is}
-use Rattle.meaning.proofs.Means.{meaning-proper, run-means}
+use Rattle.meaning.proofs.Means.{meaning-proper, Lent, run-means}
 
 -- ---- a register that was stored
 
@@ -84,23 +87,23 @@ module _ (b : ℕ) (s : State) where
 
 -- ---- the count
 
-low-is : (cs : List ℕ) (s : State) → meaning cs 9 (insnOf countLow) s ≡ sumWith 1 s
-unfolding sumWith meaning meant bits bit simm20 pred operandB prepared complementIf negateIf carryIn setSumFlags added sum xor
+low-is : (cs : List ℕ) (s : State) → meaning cs (recordOf countLow) s ≡ sumWith 1 s
+unfolding sumWith meaning meant simm20 pred operandB prepared complementIf negateIf carryIn setSumFlags added sum xor recordOf numberAt wordOf signedOf
 low-is cs s = let e : reg s 0 + 1 + 0 ≡ reg s 0 + 1 = omega arith in ap (left s (reg s 0) 1) e
 
 unfoldable high : State → State
 high s = setReg s 1 ((reg s 1 + carryOf s) % 2 ^ 32)
 
-high-is : (cs : List ℕ) (s : State) → meaning cs 9 (insnOf countHigh) s ≡ high s
-unfolding high meaning meant bits bit reg pred operandB prepared complementIf negateIf carryIn setSumFlags added sum xor
+high-is : (cs : List ℕ) (s : State) → meaning cs (recordOf countHigh) s ≡ high s
+unfolding high meaning meant reg pred operandB prepared complementIf negateIf carryIn setSumFlags added sum xor recordOf numberAt
 high-is cs s = let e : reg s 1 + 0 + carryOf s ≡ reg s 1 + carryOf s = omega arith in ap (λ (x : ℕ). setReg s 1 (x % 2 ^ 32)) e
 
 count-admitted : Each (λ l. admits l ≡ true) countRecords
-unfolding admits known laneMov byteThree bits
+unfolding admits known laneMov byteThree recordOf numberAt T.bits
 count-admitted = (refl, (refl, tt))
 
-count-reads : (cs : List ℕ) → Each (λ l. reads (getD l 0 0) (insnOf l) && not (lent cs (insnOf l)) ≡ false) countRecords
-unfolding reads
+count-reads : (cs : List ℕ) → Each (Lent cs) countRecords
+unfolding reads recordOf numberAt
 count-reads cs = (refl, (refl, tt))
 
 two-words : (a b : ℕ) (c : Bool) → a < 2 ^ 32 → b < 2 ^ 32 → leb (2 ^ 32) (a + 1) ≡ c → (b + cond c 1 0) % 2 ^ 32 * 2 ^ 32 + (a + 1) % 2 ^ 32 ≡ (b * 2 ^ 32 + a + 1) % 2 ^ 64
@@ -119,8 +122,8 @@ module _ (cs : List ℕ) (s : State) (w : Words cs s) where
   low-length = sum-length 1 s ∙ w .size
 
   low-proper : Proper cs low
-  unfolding low known byteThree unlent reads bits bit pred xor
-  low-proper = rw (← low-is cs s) (meaning-proper cs 9 (insnOf countLow) s (w .proper) refl refl refl)
+  unfolding low known byteThree unlent reads pred xor recordOf numberAt T.bits
+  low-proper = rw (← low-is cs s) (meaning-proper cs (recordOf countLow) s (w .proper) refl refl refl)
 
   next-same : reg next 1 ≡ (reg s 1 + cond (leb (2 ^ 32) (reg s 0 + 1)) 1 0) % 2 ^ 32
   unfolding next high low
@@ -131,9 +134,9 @@ module _ (cs : List ℕ) (s : State) (w : Words cs s) where
   next-other m h = stored-other low 1 _ refl m h
 
   next-words : Words cs next
-  unfolding next high known byteThree unlent reads bits bit pred xor
+  unfolding next high known byteThree unlent reads pred xor recordOf numberAt T.bits
   next-words = record {
-    proper = rw (← high-is cs low) (meaning-proper cs 9 (insnOf countHigh) low low-proper refl refl refl);
+    proper = rw (← high-is cs low) (meaning-proper cs (recordOf countHigh) low low-proper refl refl refl);
     size = stored-length low 1 _ refl ∙ low-length;
   }
 
@@ -155,10 +158,15 @@ module _ (cs : List ℕ) (s : State) (w : Words cs s) where
   unfolding next low meanings
   next-evaluated =
       run-means cs countRecords s (w .proper) count-admitted (count-reads cs)
-      ∙ ap (ends Done) (ap (meaning cs 9 (insnOf countHigh)) (low-is cs s) ∙ high-is cs low)
+      ∙ ap (ends Done) (ap (meaning cs (recordOf countHigh)) (low-is cs s) ∙ high-is cs low)
 
 one-more : (x y z n : ℕ) → y ≡ (x + n) % 2 ^ 64 → z ≡ (y + 1) % 2 ^ 64 → z ≡ (x + suc n) % 2 ^ 64
 one-more x y z n p q = omega arith
+
+-- a run evaluated n times, one time after another, up to the first refusal
+unfoldable pub repeated : List ℕ → List ℕ → ℕ → State → Evaluated
+repeated run cs zero s = ends Done s
+repeated run cs (suc n) s = onward (repeated run cs n s) (λ t. evaluated run t cs)
 
 record Behind (cs : List ℕ) (n : ℕ) (s : State) (e : Evaluated) : Type 0 where
   pub done : e .outcome ≡ Done
@@ -193,23 +201,23 @@ count-counts cs s w l n = let b = behind cs s (record { proper = w; size = l }) 
 
 -- ---- the conditions
 
-sum-is : (cs : List ℕ) (s : State) → meaning cs 9 (insnOf conditionsSum) s ≡ sumWith (reg s 1) s
-unfolding sumWith meaning meant bits bit pred operandB prepared complementIf negateIf carryIn setSumFlags added sum xor
+sum-is : (cs : List ℕ) (s : State) → meaning cs (recordOf conditionsSum) s ≡ sumWith (reg s 1) s
+unfolding sumWith meaning meant pred operandB prepared complementIf negateIf carryIn setSumFlags added sum xor recordOf numberAt
 sum-is cs s = let e : reg s 0 + reg s 1 + 0 ≡ reg s 0 + reg s 1 = omega arith in ap (left s (reg s 0) (reg s 1)) e
 
 unfoldable packs : State → State
-packs s = setReg s 2 (packed (insnOf conditionsPack) s (reg s 2))
+packs s = setReg s 2 (packed (recordOf conditionsPack) s (reg s 2))
 
-packs-is : (cs : List ℕ) (s : State) → meaning cs 28 (insnOf conditionsPack) s ≡ packs s
-unfolding packs meaning meant bits bit pred xor
+packs-is : (cs : List ℕ) (s : State) → meaning cs (recordOf conditionsPack) s ≡ packs s
+unfolding packs meaning meant pred xor recordOf numberAt
 packs-is cs s = refl
 
 conditions-admitted : Each (λ l. admits l ≡ true) conditionsRecords
-unfolding admits known laneMov byteThree bits
+unfolding admits known laneMov byteThree recordOf numberAt T.bits
 conditions-admitted = (refl, (refl, tt))
 
-conditions-reads : (cs : List ℕ) → Each (λ l. reads (getD l 0 0) (insnOf l) && not (lent cs (insnOf l)) ≡ false) conditionsRecords
-unfolding reads
+conditions-reads : (cs : List ℕ) → Each (Lent cs) conditionsRecords
+unfolding reads recordOf numberAt
 conditions-reads cs = (refl, (refl, tt))
 
 -- four truths at bits 8 to 11
@@ -218,12 +226,12 @@ four-at-8 : (f : ℕ → Bool) (x v : ℕ) → bitAt v 0 ≡ f 0 → bitAt v 1 �
 unfolding fromBits inserted
 four-at-8 f x v a b c d = rw (a, b, c, d) refl
 
-mask-is : (s : State) (x : ℕ) → packed (insnOf conditionsPack) s x ≡ fromBits 32 (λ j. cond (leb 8 j && ltb j 12) (flag s (j - 8)) (bitAt x j))
-unfolding packed cellBit bits bit simm20 fromBits
+mask-is : (s : State) (x : ℕ) → packed (recordOf conditionsPack) s x ≡ fromBits 32 (λ j. cond (leb 8 j && ltb j 12) (flag s (j - 8)) (bitAt x j))
+unfolding packed cellBit simm20 fromBits recordOf numberAt wordOf signedOf
 mask-is s x = refl
 
 -- the mask 0xf names the low half of byte 1
-packed-is : (s : State) (x : ℕ) → x < 2 ^ 32 → packed (insnOf conditionsPack) s x ≡ x / 2 ^ 12 * 2 ^ 12 + (fromBits 4 (λ n. flag s n) * 2 ^ 8 + x % 2 ^ 8)
+packed-is : (s : State) (x : ℕ) → x < 2 ^ 32 → packed (recordOf conditionsPack) s x ≡ x / 2 ^ 12 * 2 ^ 12 + (fromBits 4 (λ n. flag s n) * 2 ^ 8 + x % 2 ^ 8)
 packed-is s x h =
     let f : ℕ → Bool = λ n. flag s n in
     let v = fromBits 4 f in
@@ -273,7 +281,7 @@ module _ (cs : List ℕ) (s : State) (w : Proper cs s) (l : length (s .regs) ≡
   unfolding end total meanings
   end-evaluated =
       run-means cs conditionsRecords s w conditions-admitted (conditions-reads cs)
-      ∙ ap (ends Done) (ap (meaning cs 28 (insnOf conditionsPack)) (sum-is cs s) ∙ packs-is cs total)
+      ∙ ap (ends Done) (ap (meaning cs (recordOf conditionsPack)) (sum-is cs s) ∙ packs-is cs total)
 
   -- from every state the work's run is not refused, its four bits are the sum's flags, and the number beside them survives
   pub conditions-pack : (evaluated (stripsOf conditionsRecords) s cs .outcome ≡ Done) × Packs s (evaluated (stripsOf conditionsRecords) s cs .state)

@@ -36,7 +36,7 @@ pub record Row : Type 0 where
   pub flags : List Bool
 
 abbrev pub behind : Row → State
-behind r = meaning [] (r .kind) (record { form = r .form; value = 0; word = guard7 + r .mode }) (start (r .a) (r .b) (r .c))
+behind r = meaning [] (record { kind = r .kind; form = r .form; value = 0; word = guard7 + r .mode }) (start (r .a) (r .b) (r .c))
 
 abbrev pub same : List Bool → List Bool → Bool
 same [] [] = true

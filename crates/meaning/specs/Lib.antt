@@ -1,7 +1,7 @@
 pub mod Number
+pub mod Record
 pub mod Operand
 pub mod Meaning
-pub mod Run
+pub mod Interpret
 pub mod Bench
-pub mod Turn
 pub mod Works

@@ -1,4 +1,4 @@
--- What the thirty instructions mean (01, 'Meanings and their corners'), on the record's fields, the state and the lent words. Bits are named by
+-- What the thirty instructions mean (01, 'Meanings and their corners'), on the record, the state and the lent words. Bits are named by
 -- their place in the word. Each meaning gives the state behind the instruction where its guard holds.
 use mathlib.Core.Bool.{Bool, true, false, cond, not, _&&_, _||_, xor, Bool·beq}
 use mathlib.Core.List.{List}
@@ -8,16 +8,16 @@ use lib.ListN.{length}
 use lib.IntN.{ℤ, pos, natAbs, _+ℤ_, _*ℤ_}
 use lib.Signed.{ltZ, leZ}
 use Rattle.evaluation.specs.declared.state.State.{State}
-use Rattle.translation.specs.Insn.{Insn, bits, bit, rd, ra, rb, rc, imm32, simm20}
 use Rattle.meaning.specs.Number.{signed, numberOf, wordOf, clamp, least, greatest, divided, smaller, greater, bitAt, fromBits, ones, highestOne, complement, reversed, field, extracted, inserted, digit}
+use Rattle.meaning.specs.Record.{Record, bits, bit, rd, ra, rb, rc, imm32, simm20}
 use Rattle.meaning.specs.Operand.{reg, setReg, pred, setPred, flag, setFlag, setFlags, setZS, predIf, constantPlace, constant, operandB, firstOf, secondOf, half}
 
 -- the instruction runs: its guard, a predicate, negated or not
-abbrev pub runs : Insn → State → Bool
+abbrev pub runs : Record → State → Bool
 runs i s = predIf s (bits i 16 3) (bit i 19)
 
 -- the opcode's value is n × 2 ^ 48: the Rust writes it in hex, and so do the comments
-abbrev pub opcode : Insn → ℕ → Bool
+abbrev pub opcode : Record → ℕ → Bool
 opcode i n = eqb (i .value) (n * 2 ^ 48)
 
 -- modulo 2 ^ 32
@@ -35,20 +35,20 @@ reverseIf on x = cond on (reversed x) x
 
 -- ---- moves and choices
 
-abbrev pub mov : List ℕ → Insn → State → State
+abbrev pub mov : List ℕ → Record → State → State
 mov ks i s = setReg s (rd i) (operandB ks i s)
 
-abbrev pub mov32i : Insn → State → State
+abbrev pub mov32i : Record → State → State
 mov32i i s = setReg s (rd i) (imm32 i)
 
 -- the predicate that sel, imnmx and the comparisons take
-abbrev pub selector : Insn → State → Bool
+abbrev pub selector : Record → State → Bool
 selector i s = predIf s (bits i 39 3) (bit i 42)
 
-abbrev pub sel : List ℕ → Insn → State → State
+abbrev pub sel : List ℕ → Record → State → State
 sel ks i s = setReg s (rd i) (cond (selector i s) (reg s (ra i)) (operandB ks i s))
 
-abbrev pub imnmx : List ℕ → Insn → State → State
+abbrev pub imnmx : List ℕ → Record → State → State
 imnmx ks i s =
     setReg s (rd i)
     (cond (selector i s) (smaller (bit i 48) (reg s (ra i)) (operandB ks i s)) (greater (bit i 48) (reg s (ra i)) (operandB ks i s)))
@@ -62,7 +62,7 @@ intTest t sign x y =
     || ((bitAt t 1 && eqb x y) || (bitAt t 2 && ltZ (numberOf sign 32 y) (numberOf sign 32 x)))
 
 -- c against 0; 0x5340 has the constant in c
-abbrev pub icmp : List ℕ → Insn → State → State
+abbrev pub icmp : List ℕ → Record → State → State
 icmp ks i s =
     setReg s (rd i) (cond (intTest (bits i 49 3) (bit i 48) (secondOf ks i (opcode i 21312) s) 0) (reg s (ra i)) (firstOf ks i (opcode i 21312) s))
 
@@ -90,36 +90,36 @@ unfoldable pub combined : ℕ → Bool → Bool → Bool
 combined o p q = cond (eqb o 0) (p && q) (cond (eqb o 1) (p || q) (xor p q))
 
 -- a test and a predicate to two predicates: the second answer combines the negated test, and is stored last
-unfoldable pub setPair : Insn → Bool → Bool → State → State
+unfoldable pub setPair : Record → Bool → Bool → State → State
 setPair i t p s = setPred (setPred s (bits i 3 3) (combined (bits i 45 2) t p)) (bits i 0 3) (combined (bits i 45 2) (not t) p)
 
 -- or to a register: 1.0 or all ones for true, 0 for false
-unfoldable pub truthWord : Insn → Bool → ℕ
+unfoldable pub truthWord : Record → Bool → ℕ
 truthWord i t = cond t (cond (bit i 44) 1065353216 (2 ^ 32 - 1)) 0
 
-unfoldable pub setTruth : Insn → Bool → Bool → State → State
+unfoldable pub setTruth : Record → Bool → Bool → State → State
 setTruth i t p s =
     setReg (setZS (bit i 47) s (truthWord i (combined (bits i 45 2) t p))) (rd i) (truthWord i (combined (bits i 45 2) t p))
 
-abbrev pub intTested : List ℕ → Insn → State → Bool
+abbrev pub intTested : List ℕ → Record → State → Bool
 intTested ks i s = intTest (bits i 49 3) (bit i 48) (reg s (ra i)) (operandB ks i s)
 
-abbrev pub predTested : Insn → State → Bool
+abbrev pub predTested : Record → State → Bool
 predTested i s = combined (bits i 24 2) (predIf s (bits i 12 3) (bit i 15)) (predIf s (bits i 29 3) (bit i 32))
 
-abbrev pub csetp : Insn → State → State
+abbrev pub csetp : Record → State → State
 csetp i s = setPair i (condition (bits i 8 5) (flag s 0) (flag s 1) (flag s 2) (flag s 3)) (selector i s) s
 
-abbrev pub isetp : List ℕ → Insn → State → State
+abbrev pub isetp : List ℕ → Record → State → State
 isetp ks i s = setPair i (intTested ks i s) (selector i s) s
 
-abbrev pub iset : List ℕ → Insn → State → State
+abbrev pub iset : List ℕ → Record → State → State
 iset ks i s = setTruth i (intTested ks i s) (selector i s) s
 
-abbrev pub psetp : Insn → State → State
+abbrev pub psetp : Record → State → State
 psetp i s = setPair i (predTested i s) (selector i s) s
 
-abbrev pub pset : Insn → State → State
+abbrev pub pset : Record → State → State
 pset i s = setTruth i (predTested i s) (selector i s) s
 
 -- ---- sums: of two words and a carry
@@ -159,22 +159,22 @@ added d cc sat a b k s = setReg (setSumFlags cc a b k s) d (cond sat (saturated 
 unfoldable pub sum : ℕ → (na nb extend cc sat : Bool) → ℕ → ℕ → State → State
 sum d na nb extend cc sat a b s = added d cc sat (prepared extend na nb na a) (prepared extend na nb nb b) (carryIn extend na nb s) s
 
-abbrev pub iadd : List ℕ → Insn → State → State
+abbrev pub iadd : List ℕ → Record → State → State
 iadd ks i s = sum (rd i) (bit i 49) (bit i 48) (bit i 43) (bit i 47) (bit i 50) (reg s (ra i)) (operandB ks i s) s
 
-abbrev pub iadd32i : Insn → State → State
+abbrev pub iadd32i : Record → State → State
 iadd32i i s = sum (rd i) (bit i 56) false (bit i 53) (bit i 52) (bit i 54) (reg s (ra i)) (imm32 i) s
 
 -- an operand of iadd3: in the register form a half of the register, or all of it
-unfoldable pub part : Insn → ℕ → ℕ → ℕ
+unfoldable pub part : Record → ℕ → ℕ → ℕ
 part i code x = cond (eqb (i .form) 0) (cond (eqb code 1) (half false false x) (cond (eqb code 2) (half true false x) x)) x
 
 -- the first sum, wrapped: in the register form it may be shifted by 16
-unfoldable pub partSum : Insn → ℕ → ℕ
+unfoldable pub partSum : Record → ℕ → ℕ
 partSum i x =
     cond (eqb (i .form) 0) (cond (eqb (bits i 37 2) 1) (x / 2 ^ 16) (cond (eqb (bits i 37 2) 2) (wrap (x * 2 ^ 16)) x)) x
 
-abbrev pub iadd3 : List ℕ → Insn → State → State
+abbrev pub iadd3 : List ℕ → Record → State → State
 iadd3 ks i s =
     added (rd i) (bit i 47) false
     (partSum i (wrap (negateIf (bit i 51) (part i (bits i 35 2) (reg s (ra i))) + negateIf (bit i 50) (part i (bits i 33 2) (operandB ks i s)))))
@@ -182,31 +182,31 @@ iadd3 ks i s =
     (cond (bit i 48) (carryOf s) 0)
     s
 
-abbrev pub iscadd : List ℕ → Insn → State → State
+abbrev pub iscadd : List ℕ → Record → State → State
 iscadd ks i s = setReg s (rd i) (wrap (negateIf (bit i 49) (reg s (ra i)) * 2 ^ bits i 39 5 + negateIf (bit i 48) (operandB ks i s)))
 
 -- ---- xmad: the product of two halves, shifted, and c as the mode alters it; a merge keeps the low half under b × 65,536
 
 -- 0x5100 has the constant in c
-abbrev pub xmadSwaps : Insn → Bool
+abbrev pub xmadSwaps : Record → Bool
 xmadSwaps i = opcode i 20736
 
-abbrev pub xmadB : List ℕ → Insn → State → ℕ
+abbrev pub xmadB : List ℕ → Record → State → ℕ
 xmadB ks i s = cond (eqb (i .form) 2) (bits i 20 16) (firstOf ks i (xmadSwaps i) s)
 
-abbrev pub xmadC : List ℕ → Insn → State → ℕ
+abbrev pub xmadC : List ℕ → Record → State → ℕ
 xmadC ks i s = secondOf ks i (xmadSwaps i) s
 
-unfoldable pub xmadHighB : Insn → Bool
+unfoldable pub xmadHighB : Record → Bool
 xmadHighB i = cond (eqb (i .form) 1) (bit i 52) (eqb (i .form) 0 && bit i 35)
 
-unfoldable pub xmadShifts : Insn → Bool
+unfoldable pub xmadShifts : Record → Bool
 xmadShifts i = cond (eqb (i .form) 1) (not (xmadSwaps i) && bit i 55) (bit i 36)
 
-unfoldable pub xmadMerges : Insn → Bool
+unfoldable pub xmadMerges : Record → Bool
 xmadMerges i = cond (eqb (i .form) 1) (not (xmadSwaps i) && bit i 56) (bit i 37)
 
-unfoldable pub xmadMode : Insn → ℕ
+unfoldable pub xmadMode : Record → ℕ
 xmadMode i = cond (eqb (i .form) 1) (bits i 50 2) (bits i 50 3)
 
 -- a half as an integer
@@ -219,17 +219,17 @@ altered mode c b =
     cond (eqb mode 1) (c % 2 ^ 16) (cond (eqb mode 2) (c / 2 ^ 16) (cond (eqb mode 4) (wrap (c + b * 2 ^ 16)) c))
 
 -- sixteen bits of the instruction are never signed
-abbrev pub xmadProduct : Insn → ℕ → ℕ → ℤ
+abbrev pub xmadProduct : Record → ℕ → ℕ → ℤ
 xmadProduct i a b =
     halfNumber (bit i 53) (bit i 48) a *ℤ halfNumber (xmadHighB i) (bit i 49 && not (eqb (i .form) 2)) b *ℤ pos (cond (xmadShifts i) (2 ^ 16) 1)
 
-unfoldable pub xmadSum : Insn → ℕ → ℕ → ℕ → ℕ
+unfoldable pub xmadSum : Record → ℕ → ℕ → ℕ → ℕ
 xmadSum i a b c = wordOf (xmadProduct i a b +ℤ pos (altered (xmadMode i) c b))
 
 unfoldable pub merged : Bool → ℕ → ℕ → ℕ
 merged on v b = cond on (v % 2 ^ 16 + b % 2 ^ 16 * 2 ^ 16) v
 
-abbrev pub xmad : List ℕ → Insn → State → State
+abbrev pub xmad : List ℕ → Record → State → State
 xmad ks i s = setReg s (rd i) (merged (xmadMerges i) (xmadSum i (reg s (ra i)) (xmadB ks i s) (xmadC ks i s)) (xmadB ks i s))
 
 -- ---- logic, bit by bit
@@ -242,37 +242,37 @@ bitwise o a b =
     (cond (eqb o 2) (fromBits 32 (λ j. xor (bitAt a j) (bitAt b j))) b))
 
 -- the predicate of lop, unless 7: false, true, result 0 or result not 0
-unfoldable pub setTest : Insn → ℕ → State → State
+unfoldable pub setTest : Record → ℕ → State → State
 setTest i v s = setPred s (bits i 48 3) (cond (eqb (bits i 44 2) 2) (eqb v 0) (cond (eqb (bits i 44 2) 3) (not (eqb v 0)) (eqb (bits i 44 2) 1)))
 
-abbrev pub lopWord : List ℕ → Insn → State → ℕ
+abbrev pub lopWord : List ℕ → Record → State → ℕ
 lopWord ks i s = bitwise (bits i 41 2) (complementIf (bit i 39) (reg s (ra i))) (complementIf (bit i 40) (operandB ks i s))
 
-abbrev pub lop : List ℕ → Insn → State → State
+abbrev pub lop : List ℕ → Record → State → State
 lop ks i s = setReg (setTest i (lopWord ks i s) (setZS (bit i 47) s (lopWord ks i s))) (rd i) (lopWord ks i s)
 
-abbrev pub lop32iWord : Insn → State → ℕ
+abbrev pub lop32iWord : Record → State → ℕ
 lop32iWord i s = bitwise (bits i 53 2) (complementIf (bit i 55) (reg s (ra i))) (complementIf (bit i 56) (imm32 i))
 
-abbrev pub lop32i : Insn → State → State
+abbrev pub lop32i : Record → State → State
 lop32i i s = setReg (setZS (bit i 52) s (lop32iWord i s)) (rd i) (lop32iWord i s)
 
 -- lop3: a result bit is the table's bit 4a + 2b + c
 unfoldable pub tabled : ℕ → ℕ → ℕ → ℕ → ℕ
 tabled table a b c = fromBits 32 (λ j. bitAt table (4 * digit a j + 2 * digit b j + digit c j))
 
-abbrev pub lop3 : List ℕ → Insn → State → State
+abbrev pub lop3 : List ℕ → Record → State → State
 lop3 ks i s = setReg s (rd i) (tabled (cond (eqb (i .form) 0) (bits i 28 8) (bits i 48 8)) (reg s (ra i)) (operandB ks i s) (reg s (rc i)))
 
 -- ---- shifts: with bit 39 the count is taken modulo 32
 
-abbrev pub count : Insn → ℕ → ℕ
+abbrev pub count : Record → ℕ → ℕ
 count i n = cond (bit i 39) (n % 32) n
 
-abbrev pub shl : List ℕ → Insn → State → State
+abbrev pub shl : List ℕ → Record → State → State
 shl ks i s = setReg s (rd i) (cond (ltb (count i (operandB ks i s)) 32) (wrap (reg s (ra i) * 2 ^ count i (operandB ks i s))) 0)
 
-abbrev pub shr : List ℕ → Insn → State → State
+abbrev pub shr : List ℕ → Record → State → State
 shr ks i s =
     setReg s (rd i) (wordOf (divided (numberOf (bit i 48) 32 (reverseIf (bit i 40) (reg s (ra i)))) (min (count i (operandB ks i s)) 32)))
 
@@ -280,29 +280,29 @@ shr ks i s =
 abbrev pub double : ℕ → ℕ → ℕ
 double high low = high * 2 ^ 32 + low
 
-abbrev pub shfCount : Insn → ℕ → ℕ
+abbrev pub shfCount : Record → ℕ → ℕ
 shfCount i n = cond (bit i 50) (n % 32) (min n 32)
 
 unfoldable pub shifted : Bool → ℕ → ℕ → ℕ → ℕ
 shifted left high low n = cond left (wrap (double high low * 2 ^ n / 2 ^ 32)) (wrap (double high low / 2 ^ n))
 
-abbrev pub shf : List ℕ → Insn → State → State
+abbrev pub shf : List ℕ → Record → State → State
 shf ks i s = setReg s (rd i) (shifted (opcode i 23544 || opcode i 14072) (reg s (rc i)) (reg s (ra i)) (shfCount i (operandB ks i s)))
 
 -- lea: a shifted, and b; the high form, 0x5bd8 or 0x1800, takes the high word of c × 2 ^ 32 + a, and never negates a
-abbrev pub leaReg : Insn → Bool
+abbrev pub leaReg : Record → Bool
 leaReg i = opcode i 23512
 
-abbrev pub leaConstant : Insn → Bool
+abbrev pub leaConstant : Record → Bool
 leaConstant i = opcode i 6144
 
-abbrev pub leaB : List ℕ → Insn → State → ℕ
+abbrev pub leaB : List ℕ → Record → State → ℕ
 leaB ks i s = cond (leaReg i) (reg s (rb i)) (cond (leaConstant i) (constant ks i) (operandB ks i s))
 
-abbrev pub leaCount : Insn → ℕ
+abbrev pub leaCount : Record → ℕ
 leaCount i = cond (leaReg i) (bits i 28 5) (cond (leaConstant i) (bits i 51 5) (bits i 39 5))
 
-abbrev pub lea : List ℕ → Insn → State → State
+abbrev pub lea : List ℕ → Record → State → State
 lea ks i s =
     setReg s (rd i)
     (cond (leaReg i || leaConstant i) (wrap (shifted true (reg s (rc i)) (reg s (ra i)) (leaCount i) + leaB ks i s))
@@ -316,28 +316,28 @@ position b = min (b % 256) 32
 abbrev pub width : ℕ → ℕ
 width b = min (b / 256 % 256) (32 - position b)
 
-abbrev pub bfe : List ℕ → Insn → State → State
+abbrev pub bfe : List ℕ → Record → State → State
 bfe ks i s =
     setReg s (rd i) (extracted (bit i 48) (reverseIf (bit i 40) (reg s (ra i))) (position (operandB ks i s)) (width (operandB ks i s)))
 
 -- 0x53f0 has the constant in c
-abbrev pub bfiB : List ℕ → Insn → State → ℕ
+abbrev pub bfiB : List ℕ → Record → State → ℕ
 bfiB ks i s = firstOf ks i (opcode i 21488) s
 
-abbrev pub bfi : List ℕ → Insn → State → State
+abbrev pub bfi : List ℕ → Record → State → State
 bfi ks i s = setReg s (rd i) (inserted (secondOf ks i (opcode i 21488) s) (reg s (ra i)) (position (bfiB ks i s)) (width (bfiB ks i s)))
 
 -- ---- vmnmx: of bytes, halves or words
 
--- codes 0 to 3 are bytes, 4 and 5 halves
+-- codes 0 to 3 are bytes, 4 and 5 halves, 6 and 7 the word
 unfoldable pub video : ℕ → Bool → ℕ → ℕ
-video code sign x = cond (ltb code 4) (extracted sign x (code * 8) 8) (cond (ltb code 6) (extracted sign x ((code - 4) * 16) 16) x)
+video code sign x = cond (ltb code 4) (extracted sign x (code * 8) 8) (cond (ltb code 6) (extracted sign x ((code - 4) * 16) 16) (extracted sign x 0 32))
 
-abbrev pub videoA : Insn → State → ℕ
+abbrev pub videoA : Record → State → ℕ
 videoA i s = video (bits i 36 3) (bit i 48) (reg s (ra i))
 
 -- b is a register, or sixteen bits, signed or not
-abbrev pub videoB : Insn → State → ℕ
+abbrev pub videoB : Record → State → ℕ
 videoB i s = cond (bit i 50) (video (bits i 28 3) (bit i 49) (reg s (rb i))) (extracted (bit i 49) (bits i 20 16) 0 16)
 
 -- of mixed signs the maximum is exact; the minimum is the signed operand where that is negative, else the signed minimum of the words
@@ -368,7 +368,7 @@ joined mode sign v c =
     (cond (eqb mode 4) (wrap (v + c))
     (cond (eqb mode 5) (smaller sign v c) (cond (eqb mode 6) (greater sign v c) v))))))
 
-abbrev pub vmnmx : Insn → State → State
+abbrev pub vmnmx : Record → State → State
 vmnmx i s =
     setReg s (rd i)
     (joined (bits i 51 3) (bit i 54)
@@ -382,13 +382,13 @@ sizeOf code = cond (eqb code 0) 8 (cond (eqb code 1) 16 32)
 
 -- a byte or half from a byte on, its sign extended or not; else the word
 unfoldable pub source : ℕ → Bool → ℕ → ℕ → ℕ
-source code sign byte x = cond (ltb code 2) (extracted sign x (byte * 8) (sizeOf code)) x
+source code sign byte x = extracted sign x (cond (ltb code 2) (byte * 8) 0) (sizeOf code)
 
 -- that of -2 ^ 31 wraps to itself
 unfoldable pub absoluteIf : Bool → ℕ → ℕ
 absoluteIf on x = cond on (wordOf (pos (natAbs (signed x)))) x
 
-abbrev pub i2i : List ℕ → Insn → State → State
+abbrev pub i2i : List ℕ → Record → State → State
 i2i ks i s =
     setReg s (rd i)
     (source (bits i 8 2) (bit i 12) 0
@@ -405,83 +405,83 @@ highestPlace sign x = highestOne 32 (cond (sign && leb (2 ^ 31) x) (complement x
 unfoldable pub fromTop : Bool → ℕ → ℕ
 fromTop on v = cond (on && not (eqb v (2 ^ 32 - 1))) (31 - v) v
 
-abbrev pub flo : List ℕ → Insn → State → State
+abbrev pub flo : List ℕ → Record → State → State
 flo ks i s = setReg s (rd i) (fromTop (bit i 41) (highestPlace (bit i 48) (complementIf (bit i 40) (operandB ks i s))))
 
-abbrev pub popc : List ℕ → Insn → State → State
+abbrev pub popc : List ℕ → Record → State → State
 popc ks i s = setReg s (rd i) (ones 32 (complementIf (bit i 40) (operandB ks i s)))
 
 -- ---- predicates or flags, and a byte of a register
 
 -- without an immediate the mask is seven ones
-abbrev pub mask : Insn → ℕ
+abbrev pub mask : Record → ℕ
 mask i = cond (eqb (i .form) 2) (simm20 i) 127
 
-abbrev pub place : Insn → ℕ
+abbrev pub place : Record → ℕ
 place i = bits i 41 2 * 8
 
 -- seven predicates, or with bit 40 four flags
-abbrev pub cells : Insn → ℕ
+abbrev pub cells : Record → ℕ
 cells i = cond (bit i 40) 4 7
 
 -- r2p: the first n cells that the mask names, from the bits of a
-unfoldable pub spread : Insn → ℕ → ℕ → State → State
+unfoldable pub spread : Record → ℕ → ℕ → State → State
 spread i a zero s = s
 spread i a (suc n) s =
     cond (bitAt (mask i) n) (cond (bit i 40) (setFlag (spread i a n s) n (bitAt a (place i + n))) (setPred (spread i a n s) n (bitAt a (place i + n))))
     (spread i a n s)
 
-abbrev pub r2p : Insn → State → State
+abbrev pub r2p : Record → State → State
 r2p i s = spread i (reg s (ra i)) (cells i) s
 
 -- p2r: the masked bits of the byte become the cells, or 0 where there is no such cell; the other bits stay
-unfoldable pub cellBit : Insn → State → ℕ → Bool
+unfoldable pub cellBit : Record → State → ℕ → Bool
 cellBit i s n = ltb n (cells i) && cond (bit i 40) (flag s n) (pred s n)
 
-unfoldable pub packed : Insn → State → ℕ → ℕ
+unfoldable pub packed : Record → State → ℕ → ℕ
 packed i s a =
     fromBits 32 (λ j. cond (leb (place i) j && (ltb j (place i + 8) && bitAt (mask i) (j - place i))) (cellBit i s (j - place i)) (bitAt a j))
 
-abbrev pub p2r : Insn → State → State
+abbrev pub p2r : Record → State → State
 p2r i s = setReg s (rd i) (packed i s (reg s (ra i)))
 
 -- ---- all of them, by kind
 
-unfoldable pub meant : List ℕ → ℕ → Insn → State → State
-meant ks k i s =
-    cond (eqb k 1) (mov ks i s)
-    (cond (eqb k 2) (mov32i i s)
-    (cond (eqb k 3) (sel ks i s)
-    (cond (eqb k 4) (csetp i s)
-    (cond (eqb k 5) (isetp ks i s)
-    (cond (eqb k 6) (iset ks i s)
-    (cond (eqb k 7) (psetp i s)
-    (cond (eqb k 8) (pset i s)
-    (cond (eqb k 9) (iadd ks i s)
-    (cond (eqb k 10) (iadd32i i s)
-    (cond (eqb k 11) (iadd3 ks i s)
-    (cond (eqb k 12) (iscadd ks i s)
-    (cond (eqb k 13) (xmad ks i s)
-    (cond (eqb k 14) (imnmx ks i s)
-    (cond (eqb k 15) (icmp ks i s)
-    (cond (eqb k 16) (lop ks i s)
-    (cond (eqb k 17) (lop32i i s)
-    (cond (eqb k 18) (lop3 ks i s)
-    (cond (eqb k 19) (shl ks i s)
-    (cond (eqb k 20) (shr ks i s)
-    (cond (eqb k 21) (bfe ks i s)
-    (cond (eqb k 22) (bfi ks i s)
-    (cond (eqb k 23) (vmnmx i s)
-    (cond (eqb k 24) (i2i ks i s)
-    (cond (eqb k 25) (flo ks i s)
-    (cond (eqb k 26) (popc ks i s)
-    (cond (eqb k 27) (r2p i s)
-    (cond (eqb k 28) (p2r i s)
-    (cond (eqb k 29) (shf ks i s) (lea ks i s)))))))))))))))))))))))))))))
+unfoldable pub meant : List ℕ → Record → State → State
+meant ks i s =
+    cond (eqb (i .kind) 1) (mov ks i s)
+    (cond (eqb (i .kind) 2) (mov32i i s)
+    (cond (eqb (i .kind) 3) (sel ks i s)
+    (cond (eqb (i .kind) 4) (csetp i s)
+    (cond (eqb (i .kind) 5) (isetp ks i s)
+    (cond (eqb (i .kind) 6) (iset ks i s)
+    (cond (eqb (i .kind) 7) (psetp i s)
+    (cond (eqb (i .kind) 8) (pset i s)
+    (cond (eqb (i .kind) 9) (iadd ks i s)
+    (cond (eqb (i .kind) 10) (iadd32i i s)
+    (cond (eqb (i .kind) 11) (iadd3 ks i s)
+    (cond (eqb (i .kind) 12) (iscadd ks i s)
+    (cond (eqb (i .kind) 13) (xmad ks i s)
+    (cond (eqb (i .kind) 14) (imnmx ks i s)
+    (cond (eqb (i .kind) 15) (icmp ks i s)
+    (cond (eqb (i .kind) 16) (lop ks i s)
+    (cond (eqb (i .kind) 17) (lop32i i s)
+    (cond (eqb (i .kind) 18) (lop3 ks i s)
+    (cond (eqb (i .kind) 19) (shl ks i s)
+    (cond (eqb (i .kind) 20) (shr ks i s)
+    (cond (eqb (i .kind) 21) (bfe ks i s)
+    (cond (eqb (i .kind) 22) (bfi ks i s)
+    (cond (eqb (i .kind) 23) (vmnmx i s)
+    (cond (eqb (i .kind) 24) (i2i ks i s)
+    (cond (eqb (i .kind) 25) (flo ks i s)
+    (cond (eqb (i .kind) 26) (popc ks i s)
+    (cond (eqb (i .kind) 27) (r2p i s)
+    (cond (eqb (i .kind) 28) (p2r i s)
+    (cond (eqb (i .kind) 29) (shf ks i s) (lea ks i s)))))))))))))))))))))))))))))
 
 -- an instruction that does not run changes nothing
-unfoldable pub meaning : List ℕ → ℕ → Insn → State → State
-meaning ks k i s = cond (runs i s) (meant ks k i s) s
+unfoldable pub meaning : List ℕ → Record → State → State
+meaning ks i s = cond (runs i s) (meant ks i s) s
 
 -- ---- constants: which records read one, and whether it is lent
 
@@ -489,8 +489,12 @@ meaning ks k i s = cond (runs i s) (meant ks k i s) s
 unfoldable pub mayRead : ℕ → Bool
 mayRead k = not (eqb k 2 || (eqb k 4 || (eqb k 7 || (eqb k 8 || (eqb k 10 || (eqb k 17 || (eqb k 23 || (eqb k 27 || eqb k 28))))))))
 
-unfoldable pub reads : ℕ → Insn → Bool
-reads k i = cond (eqb k 30) (leaConstant i || (not (leaReg i) && eqb (i .form) 1)) (eqb (i .form) 1 && mayRead k)
+-- lea's opcode names the constant, or a register; else its form does
+abbrev pub leaReads : Record → Bool
+leaReads i = leaConstant i || (not (leaReg i) && eqb (i .form) 1)
 
-abbrev pub lent : List ℕ → Insn → Bool
+unfoldable pub reads : Record → Bool
+reads i = cond (eqb (i .kind) 30) (leaReads i) (eqb (i .form) 1 && mayRead (i .kind))
+
+abbrev pub lent : List ℕ → Record → Bool
 lent ks i = ltb (constantPlace i) (length ks)

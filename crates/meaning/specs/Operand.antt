@@ -5,8 +5,8 @@ use Prim.Native.Nat.{ℕ, _+_, _*_, _^_}
 use lib.Dec.{eqb, leb}
 use lib.ListN.{getD, set}
 use Rattle.evaluation.specs.declared.state.State.{State}
-use Rattle.translation.specs.Insn.{Insn, rb, rc, simm20, cslot, cword}
 use Rattle.meaning.specs.Number.{extracted}
+use Rattle.meaning.specs.Record.{Record, rb, rc, simm20, constantSlot, constantWord}
 
 -- ---- cells
 
@@ -45,21 +45,21 @@ abbrev pub predIf : State → ℕ → Bool → Bool
 predIf s n negated = xor (pred s n) negated
 
 -- the lent word that an instruction names: word w of slot s is element s × 16,384 + w
-abbrev pub constantPlace : Insn → ℕ
-constantPlace i = cslot i * 16384 + cword i
+abbrev pub constantPlace : Record → ℕ
+constantPlace i = constantSlot i * 16384 + constantWord i
 
-abbrev pub constant : List ℕ → Insn → ℕ
+abbrev pub constant : List ℕ → Record → ℕ
 constant ks i = getD ks (constantPlace i) 0
 
 -- b: a register, a constant, or twenty signed bits
-unfoldable pub operandB : List ℕ → Insn → State → ℕ
+unfoldable pub operandB : List ℕ → Record → State → ℕ
 operandB ks i s = cond (eqb (i .form) 0) (reg s (rb i)) (cond (eqb (i .form) 1) (constant ks i) (simm20 i))
 
 -- b and c: in the constant form the opcode's value may swap them, so that the constant is c
-unfoldable pub firstOf : List ℕ → Insn → Bool → State → ℕ
+unfoldable pub firstOf : List ℕ → Record → Bool → State → ℕ
 firstOf ks i swap s = cond (eqb (i .form) 1 && swap) (reg s (rc i)) (operandB ks i s)
 
-unfoldable pub secondOf : List ℕ → Insn → Bool → State → ℕ
+unfoldable pub secondOf : List ℕ → Record → Bool → State → ℕ
 secondOf ks i swap s = cond (eqb (i .form) 1 && swap) (constant ks i) (reg s (rc i))
 
 -- the low or high half, its sign extended or not

@@ -2,12 +2,9 @@
 use mathlib.Core.Path.{_≡_}
 use mathlib.Core.Bool.{Bool}
 use mathlib.Core.List.{List, [], _∷_}
-use Prim.Native.Nat.{ℕ, zero, suc, _+_, _*_, _/_, _%_, _^_, _≤_}
+use Prim.Native.Nat.{ℕ, _+_, _*_, _/_, _%_, _^_, _≤_}
 use lib.Dec.{eqb, leb}
 use Rattle.evaluation.specs.declared.state.State.{State}
-use Rattle.evaluation.specs.declared.machine.Outcome.the-variants.{Done}
-use Rattle.evaluation.specs.declared.machine.Evaluated.{Evaluated}
-use Rattle.evaluation.specs.Machine.{onward, evaluated}
 use Rattle.meaning.specs.Number.{fromBits, field}
 use Rattle.meaning.specs.Operand.{reg, flag}
 use Rattle.meaning.specs.Meaning.{overflows}
@@ -33,11 +30,6 @@ pub record Counts (n : ℕ) (s t : State) : Type 0 where
   pub count : counted t ≡ (counted s + n) % 2 ^ 64
   pub others : (k : ℕ) → 2 ≤ k → reg t k ≡ reg s k
   pub preds : t .preds ≡ s .preds
-
--- a run evaluated n times, one behind another, up to the first refusal
-unfoldable pub repeated : List ℕ → List ℕ → ℕ → State → Evaluated
-repeated run cs zero s = record { outcome = Done; state = s }
-repeated run cs (suc n) s = onward (repeated run cs n s) (λ t. evaluated run t cs)
 
 -- ---- the conditions: the flags of R0 + R1, packed beside a number in byte 1 of R2
 

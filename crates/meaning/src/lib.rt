@@ -1,2 +1,7 @@
-// What the thirty instructions mean, and that every strip means what its record does. There is nothing to run here: the definitions are in
-// specs/, the theorems in proofs/.
+// What the thirty instructions mean (specs), the theorems that strips mean it (proofs), and one function from a record to its meaning.
+mod interpreter;
+
+pub use interpreter::Interpreted;
+pub use interpreter::Outcome;
+pub use interpreter::interpret;
+pub use interpreter::outcome_number;

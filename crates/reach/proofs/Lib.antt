@@ -7,3 +7,4 @@ pub mod Scan
 pub mod Column
 pub mod Pass
 pub mod Shown
+pub mod Demand1

@@ -8,9 +8,10 @@ use lib.Dec.{eqb}
 use lib.ListN.{getD}
 use Rattle.strip.specs.declared.reader.Entry.{Entry}
 use Rattle.strip.specs.declared.reader.Entry.the-variants as Of
-use Rattle.strip.specs.Shape.{isOpen, decode, shapeOk}
+use Rattle.strip.specs.Shape.{isOpen, decode, shapeOk, shapeNumber}
 use Rattle.evaluation.specs.Cells.{storeKind, stores, loads}
 use Rattle.reach.specs.declared.cells.Cells.{Cells}
+use Rattle.reach.specs.declared.cells.Outcome.{Outcome}
 use Rattle.reach.specs.declared.cells.Outcome.the-variants.{Done, BadShape}
 use Rattle.reach.specs.declared.cells.Reached.{Reached}
 
@@ -65,3 +66,20 @@ reachOf (es ∷ ss) c = rule es (reachOf ss c)
 unfoldable pub reached : List ℕ → Cells → Reached
 reached run c =
     cond (shapeOk run) (record { cells = reachOf (Option·getD (decode run) []) c; outcome = Done }) (record { cells = c; outcome = BadShape })
+
+-- ---- the answer: 01's number, and the cells
+
+unfoldable pub numberOf : Outcome → ℕ
+numberOf Done = 0
+numberOf BadShape = 7
+
+pub record Answer : Type 0 where
+  pub number : ℕ
+  pub cells : Cells
+
+abbrev pub answerOf : Reached → Answer
+answerOf r = record { number = numberOf (r .outcome); cells = r .cells }
+
+-- the number is the shape test's
+unfoldable pub reachAnswer : List ℕ → Cells → Answer
+reachAnswer run c = record { number = shapeNumber run; cells = cond (shapeOk run) (reachOf (Option·getD (decode run) []) c) c }

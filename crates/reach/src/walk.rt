@@ -4,7 +4,7 @@ ghost use mathlib.Core.Path.{_≡_};
 ghost use mathlib.Core.List.{List};
 ghost use Prim.Native.Nat.{ℕ, _+_, _≤_, _<_};
 ghost use lib.ListN.{length, getD};
-ghost use Rattle.reach.specs.Reach.{reached};
+ghost use Rattle.reach.specs.Reach.{answerOf, reachAnswer};
 ghost use Rattle.reach.specs.Rows.{Sized, Passed, Kept, Steps, Whole, placed, loadPlace, storePlace, none, cellsIn, collected, shown};
 use crate::cells::Cells;
 use crate::cells::Outcome;
@@ -200,7 +200,7 @@ fn answer(rows: &mut [u64], asked: Cells) -> Reached
 
 // The cells at the start of a run that can matter to the asked ones at its end. A run that is not in order is refused, with the asked cells.
 pub fn reach(run: &[u8], asked: Cells) -> Reached
-    ensures { λ r. ⌜ r ≡ reached (now (run .entry)) asked ⌝ }
+    ensures { λ r. ⌜ answerOf r ≡ reachAnswer (now (run .entry)) asked ⌝ }
 {
     let mut rows = [0u64; 1500];
     if pass(run, &mut rows) {

@@ -1,6 +1,6 @@
 // The shape test with C linkage. A library of its own: a second caller of the reader would make it slower (docs/DECISIONS.md).
 ghost use mathlib.Core.Path.{_≡_};
-ghost use Rattle.strip_host.specs.Numbers.{shapeNumber};
+ghost use Rattle.strip.specs.Shape.{shapeNumber};
 
 // Whether a run of strips is in order: 0, or 7 where it is not.
 #[no_mangle]

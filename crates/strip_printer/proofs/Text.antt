@@ -12,7 +12,7 @@ use lib.ListN.{length, take, getD, set, replicate, length-append, length-drop, l
 use lib.Seq.{sets, take-suc, length-take-le, length-sets}
 use Rattle.io.specs.Counts.{Counts}
 use Rattle.io.specs.Digits.{glyph, digits, Fewest}
-use Rattle.translation.specs.Strip.{Answer, refusalNumber, written, translation}
+use Rattle.translation.specs.Strip.{Decision, refusalNumber, written, decision}
 use Rattle.translation.specs.declared.answer.Outcome.{Outcome}
 use Rattle.translation.specs.declared.answer.Outcome.the-variants.{Written, Refused}
 use Rattle.translation.specs.declared.answer.Refusal.{Refusal}
@@ -150,7 +150,7 @@ line-size d t = rw (length-append, length-append) (omega arith)
 -- ---- answers
 
 -- of an answer in 256 bytes
-module _ {a : Answer} (l m : List ℕ) (e : a ≡ translation l m (replicate 256 0)) where
+module _ {a : Decision} (l m : List ℕ) (e : a ≡ decision l m (replicate 256 0)) where
   pub fits-length : length (a .out) ≡ 256
   fits-length = rw e (fits l m (replicate 256 0) .same)
 

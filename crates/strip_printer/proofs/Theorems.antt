@@ -9,7 +9,7 @@ use lib.Dec.{eqb, ltb}
 use lib.ListN.{length, drop, getD, replicate}
 use lib.Seq.{take-append-seam}
 use Rattle.translation.specs.Insn.{Insn}
-use Rattle.translation.specs.Strip.{Answer, strip, marked, insnOf, known, laneMov, byteThree, refused, fitted, admitted, translation}
+use Rattle.translation.specs.Strip.{Decision, strip, marked, insnOf, known, laneMov, byteThree, refused, fitted, admitted, decision}
 use Rattle.translation.specs.declared.answer.Outcome.the-variants.{Written, Refused}
 use Rattle.translation.specs.declared.answer.Refusal.{Refusal}
 use Rattle.translation.specs.declared.answer.Refusal.the-variants.{BadLength, UnknownKind, UnknownForm, LaneMov, ByteThree, NoRoom}
@@ -29,10 +29,10 @@ module _ (k : ℕ) (i : Insn) (m : List ℕ) where
   strip-printed = rw (room-enough, take-append-seam)
 
 -- not for want of room
-abbrev Roomy : Answer → Type 0
+abbrev Roomy : Decision → Type 0
 Roomy a = a .outcome ≡ Refused NoRoom → ⊥
 
-either : (b : Bool) (x y : Answer) → Roomy x → Roomy y → Roomy (cond b x y)
+either : (b : Bool) (x y : Decision) → Roomy x → Roomy y → Roomy (cond b x y)
 either true x y p q = p
 either false x y p q = q
 
@@ -42,7 +42,7 @@ other r m h e = h (cc)
 -- a record's answer
 module _ (l m : List ℕ) where
   pub never-six : answerTo l m .outcome ≡ Refused NoRoom → ⊥
-  unfolding answerTo translation admitted
+  unfolding answerTo decision admitted
   never-six =
       let i = insnOf l in
       let strip-fits : Roomy (fitted (getD l 0 0) i m room) = rw (room-enough (getD l 0 0) i m) (λ e. let z : _≡_ {A = ℕ} 0 1 = cc in omega arith) in

@@ -7,7 +7,7 @@ use lib.Dec.{ltb, leb}
 use lib.ListN.{length, take, drop, replicate}
 use lib.Seq.{sets}
 use Rattle.io.specs.Digits.{glyph}
-use Rattle.translation.specs.Strip.{Answer, refusalNumber, translation}
+use Rattle.translation.specs.Strip.{Decision, refusalNumber, decision}
 use Rattle.translation.specs.declared.answer.Outcome.{Outcome}
 use Rattle.translation.specs.declared.answer.Outcome.the-variants.{Written, Refused}
 use Rattle.translation.specs.declared.answer.Refusal.{Refusal}
@@ -55,10 +55,10 @@ pub record Printed : Type 0 where
   pub going : Bool
 
 -- a record's answer: 256 bytes of room are enough for every strip (`never-six` of `proofs/Theorems.antt`)
-unfoldable pub answerTo : List ℕ → List ℕ → Answer
-answerTo l marks = translation l marks (replicate 256 0)
+unfoldable pub answerTo : List ℕ → List ℕ → Decision
+answerTo l marks = decision l marks (replicate 256 0)
 
-abbrev pub withLine : Printed → Answer → Printed
+abbrev pub withLine : Printed → Decision → Printed
 withLine p a = record {
   text = p .text ++ lineOf (p .index) (a .outcome) (a .out);
   index = p .index + 1;
@@ -81,7 +81,7 @@ lines l p = upTo ((length l + 17) / 18) l p
 -- ---- what contracts say
 
 -- behind a record, the text being in a buffer
-abbrev pub behind : Printer → Answer → Printer
+abbrev pub behind : Printer → Decision → Printer
 behind p a = record {
   at = p .at + length (lineOf (p .index) (a .outcome) (a .out));
   index = p .index + 1;
@@ -90,7 +90,7 @@ behind p a = record {
 }
 
 -- the line of a record, in the buffer
-abbrev pub added : Printer → Answer → List ℕ → List ℕ
+abbrev pub added : Printer → Decision → List ℕ → List ℕ
 added p a out = sets out (p .at) (lineOf (p .index) (a .outcome) (a .out))
 
 abbrev pub begun : Printer → Printed

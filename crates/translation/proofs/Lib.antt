@@ -1,10 +1,15 @@
 pub mod Follow
 pub mod Write
+pub mod Carry
 pub mod Fits
 pub mod Typed
 pub mod InRange
 pub mod Arms
 pub mod Marked
+pub mod Decided
 pub mod Whole
 pub mod Ordered
 pub mod Shape
+pub mod Sem
+pub mod Stays
+pub mod Evaluated

@@ -17,7 +17,7 @@ use Rattle.translation.specs.Insn.{Insn}
 use Rattle.translation.specs.Code.{Code, build}
 use Rattle.translation.specs.Helpers.{p}
 use Rattle.translation.specs.Arms.{armOf}
-use Rattle.translation.specs.Strip.{Answer, guard, guardNot, block, guarded, entriesOf, strip, marked, insnOf, known, laneMov, byteThree, admits, refused, fitted, admitted, translation, written}
+use Rattle.translation.specs.Strip.{Decision, guard, guardNot, block, guarded, entriesOf, strip, marked, insnOf, known, laneMov, byteThree, admits, refused, fitted, admitted, decision, written}
 use Rattle.translation.specs.declared.answer.Outcome.{Outcome}
 use Rattle.translation.specs.declared.answer.Outcome.the-variants.{Written, Refused}
 use Rattle.translation.specs.declared.answer.Refusal.{Refusal}
@@ -78,14 +78,14 @@ isWritten (Written n) = true
 isWritten (Refused r) = false
 
 -- what an accepted translation hands back
-pub record Accepted (l m room : List ℕ) (n : ℕ) (r : Answer) : Type 0 where
+pub record Accepted (l m room : List ℕ) (n : ℕ) (r : Decision) : Type 0 where
   pub size : n ≡ length (strip (getD l 0 0) (insnOf l))
   pub fits : n ≤ length room
   pub marks : r .marks ≡ marked (getD l 0 0) (insnOf l) m
   pub out : r .out ≡ strip (getD l 0 0) (insnOf l) ++ drop n room
 
-pub accepted : (l m out : List ℕ) (n : ℕ) → translation l m out .outcome ≡ Written n → (admits l ≡ true) × Accepted l m out n (translation l m out)
-unfolding translation admitted fitted admits written
+pub accepted : (l m out : List ℕ) (n : ℕ) → decision l m out .outcome ≡ Written n → (admits l ≡ true) × Accepted l m out n (decision l m out)
+unfolding decision admitted fitted admits written
 accepted l m out n h =
     go (eqb (length l) 18) (known k) (ltb 2 (insnOf l .form)) (laneMov k (insnOf l)) (byteThree k (insnOf l)) (leb (length s) (length out)) (leb-true (length s) (length out)) h
   where
@@ -95,13 +95,13 @@ accepted l m out n h =
     s : List ℕ
     s = strip (getD l 0 0) (insnOf l)
 
-    Case : Bool → Answer → Type 0
+    Case : Bool → Decision → Type 0
     Case b r = r .outcome ≡ Written n → (b ≡ true) × Accepted l m out n r
 
     none : (b : Bool) (f : Refusal) → Case b (refused f m out)
     none b f e = absurd (false≢true (ap isWritten e))
 
-    full : Answer
+    full : Decision
     full = record { outcome = Written (length s); marks = marked k (insnOf l) m; out = s ++ drop (length s) out }
 
     go : (a b c d e f : Bool) → (f ≡ true → length s ≤ length out) → Case (a && (b && (not c && (not d && not e)))) (cond a (cond b (cond c (refused UnknownForm m out) (cond d (refused LaneMov m out) (cond e (refused ByteThree m out) (cond f full (refused NoRoom m out))))) (refused UnknownKind m out)) (refused BadLength m out))
@@ -114,14 +114,14 @@ accepted l m out n h =
     go true true false false false true w = λ x. let q : length s ≡ n = ap written x in (refl, record { size = sym q; fits = rw (← q) (w refl); marks = refl; out = ap (λ (j : ℕ). s ++ drop j out) q })
 
 -- the bytes of an accepted record are one strip that passes the shape test: that of its entries
-pub accepted-strip : (l m out : List ℕ) (n : ℕ) → translation l m out .outcome ≡ Written n → take n (translation l m out .out) ≡ strip (getD l 0 0) (insnOf l)
+pub accepted-strip : (l m out : List ℕ) (n : ℕ) → decision l m out .outcome ≡ Written n → take n (decision l m out .out) ≡ strip (getD l 0 0) (insnOf l)
 accepted-strip l m out n h = let a = accepted l m out n h .1 in rw (a .out) (take-at (strip (getD l 0 0) (insnOf l)) (drop n out) n (sym (a .size)))
 
-pub accepted-shape : (l m out : List ℕ) (n : ℕ) → translation l m out .outcome ≡ Written n → shapeOk (take n (translation l m out .out)) ≡ true
+pub accepted-shape : (l m out : List ℕ) (n : ℕ) → decision l m out .outcome ≡ Written n → shapeOk (take n (decision l m out .out)) ≡ true
 accepted-shape l m out n h = rw (accepted-strip l m out n h) (strip-shape (getD l 0 0) (insnOf l))
 
 -- an answer keeps the room's length, and what it writes fits
-pub record Fitting (out : List ℕ) (a : Answer) : Type 0 where
+pub record Fitting (out : List ℕ) (a : Decision) : Type 0 where
   pub same : length (a .out) ≡ length out
   pub within : written (a .outcome) ≤ length out
 
@@ -129,7 +129,7 @@ refused-fits : (r : Refusal) (m out : List ℕ) → Fitting out (refused r m out
 unfolding written
 refused-fits r m out = record { same = refl; within = omega arith }
 
-either-fits : (b : Bool) (x y : Answer) (out : List ℕ) → Fitting out x → Fitting out y → Fitting out (cond b x y)
+either-fits : (b : Bool) (x y : Decision) (out : List ℕ) → Fitting out x → Fitting out y → Fitting out (cond b x y)
 either-fits true x y out p q = p
 either-fits false x y out p q = q
 
@@ -141,8 +141,8 @@ fitted-fits k i m out = by (leb (length (strip k i)) (length out)) refl
     by true e = let h : length (strip k i) ≤ length out = leb-true _ _ e in rw e (record { same = rw (length-append, length-drop) (omega arith); within = h })
     by false e = rw e (refused-fits NoRoom m out)
 
-pub fits : (l m out : List ℕ) → Fitting out (translation l m out)
-unfolding translation admitted
+pub fits : (l m out : List ℕ) → Fitting out (decision l m out)
+unfolding decision admitted
 fits l m out =
     let k = getD l 0 0 in
     let i = insnOf l in

@@ -18,7 +18,7 @@ use Rattle.translation.specs.Helpers.{p}
 use Rattle.translation.specs.Arms.{armOf}
 use Rattle.translation.specs.Marks.{raise, uses}
 use Rattle.translation.specs.Emit.{Buffer, Value, wrote, emits, view}
-use Rattle.translation.specs.Strip.{Answer, guard, guardNot, block, guarded, entriesOf, strip, marked, refused, fitted}
+use Rattle.translation.specs.Strip.{Decision, guard, guardNot, block, guarded, entriesOf, strip, marked, refused, fitted}
 use Rattle.translation.specs.Whole.{writes}
 use Rattle.translation.specs.declared.writer.Pos.{Pos}
 use Rattle.translation.specs.declared.answer.Outcome.the-variants.{Written}

@@ -6,7 +6,7 @@ use lib.Dec.{eqb, ltb}
 use Rattle.translation.specs.Insn.{Insn, bits, bit, rd, ra, rb, rc, imm32, simm20, cslot, cword}
 use Rattle.translation.specs.Code.{Code, ite}
 use Rattle.translation.specs.Notation.{Mk, Line, val, eff, fn, uses, _>>=_, _>>_, pure, fn0, fn1, fn2, fn3, fn4, fn5, fn0!, fn1!, fn2!, fn3!, fn4!, fn5!, same, u, btrue, constantFalse, ccFlag, storePred, storeFlag, unsupported, bitReverse, bitCount, castI, castU, sAbs, findSMsb, findUMsb, logicalNot, iAdd, iSub, iMul, shiftLeftLogical, shiftRightLogical, bitwiseAnd, bitwiseOr, bitwiseXor, uMin, sMin, uMax, sMax, iEqual, iNotEqual, sLessThan, select, bitFieldInsert}
-use Rattle.translation.specs.Helpers.{r, set, p, predicate, setp, b2u, cbufImm, srcB, srcBc, inot, ineg, carryFlag, setCcNone, addWithFlags, addWithCarry, saturateAdd, boolOp, intCmp, ccTest, shift, lop3, tableBit, extract, half16, halfSelect, videoOperand, intSource, saturateInt}
+use Rattle.translation.specs.Helpers.{r, set, p, predicate, setp, b2u, cbufImm, srcB, srcBc, inot, ineg, setCcIf, carrySum, saturateAdd, boolOp, intCmp, ccTest, shift, lop3, tableBit, extract, half16, halfSelect, videoOperand, intSource, saturateInt}
 
 -- ---- moves and choices
 
@@ -50,7 +50,7 @@ truthWord i = cond (bit i 44) 1065353216 4294967295
 unfoldable pub setTruth : Insn → Code
 setTruth i = fn1 λ c. do
   v ← fn1! (b2u (truthWord i) 0) c
-  v ← fn1! (setCcNone (bit i 47)) v
+  v ← fn1! (setCcIf (bit i 47)) v
   v ← fn1! (set (rd i)) v
   pure v
 
@@ -97,32 +97,11 @@ pcombine pair i = fn0 do
 unfoldable pub prepared : Bool → Bool → Code
 prepared complement on = ite complement (inot on) (ineg on)
 
--- with the flag as carry in
-unfoldable pub addFlag : Bool → Code
-addFlag cc = fn2 λ a b. do
-  c ← fn0! carryFlag
-  v ← fn3! (addWithCarry cc) a b c
-  pure v
-
--- with one as carry in
-unfoldable pub addOne : Bool → Code
-addOne cc = fn2 λ a b. do
-  c ← u 1
-  v ← fn3! (addWithCarry cc) a b c
-  pure v
-
--- the sum, with the carry in that belongs to it: the flag, one, or none
-unfoldable pub iaddSum : Bool → Bool → Bool → Code
-iaddSum x one cc =
-    ite x
-    (addFlag cc)
-    (ite one (addOne cc) (addWithFlags cc))
-
 unfoldable pub iaddOf : ℕ → (na nb x cc sat : Bool) → Code
 iaddOf d na nb x cc sat = fn2 λ a b. do
   a ← fn1! (prepared (x || not (Bool·beq na nb)) na) a
   b ← fn1! (prepared (x || not (Bool·beq na nb)) nb) b
-  v ← fn2! (iaddSum x (not (Bool·beq na nb)) cc) a b
+  v ← fn2! (carrySum x (not (Bool·beq na nb)) cc) a b
   v ← fn3! (saturateAdd sat) a b v
   v ← fn1! (set d) v
   pure v
@@ -150,9 +129,6 @@ iadd3Shift s =
     ite (eqb s 1) (fn2 λ v n. do v ← shiftRightLogical v n; pure v)
     (ite (eqb s 2) (fn2 λ v n. do v ← shiftLeftLogical v n; pure v) (fn2 λ v n. pure v))
 
-unfoldable pub iadd3Sum : Bool → Bool → Code
-iadd3Sum x cc = ite x (addFlag cc) (addWithFlags cc)
-
 unfoldable pub iadd3Of : Insn → Code
 iadd3Of i = fn3 λ a b c. do
   a ← fn1! (ineg (bit i 51)) a
@@ -161,7 +137,7 @@ iadd3Of i = fn3 λ a b c. do
   ab ← iAdd a b
   sixteen ← u 16
   ab ← fn2! (iadd3Shift (iadd3Count i)) ab sixteen
-  v ← fn2! (iadd3Sum (bit i 48) (bit i 47)) ab c
+  v ← fn2! (carrySum (bit i 48) false (bit i 47)) ab c
   v ← fn1! (set (rd i)) v
   pure v
 
@@ -357,7 +333,7 @@ lop i = fn0 do
   a ← fn1! (inot (bit i 39)) a
   b ← fn1! (inot (bit i 40)) b
   v ← fn2! (lopWord (bits i 41 2)) a b
-  v ← fn1! (setCcNone (bit i 47)) v
+  v ← fn1! (setCcIf (bit i 47)) v
   v ← fn1! (lopPredicate i) v
   v ← fn1! (set (rd i)) v
   pure v
@@ -369,7 +345,7 @@ lop32i i = fn0 do
   a ← fn1! (inot (bit i 55)) a
   b ← fn1! (inot (bit i 56)) b
   v ← fn2! (lopWord (bits i 53 2)) a b
-  v ← fn1! (setCcNone (bit i 52)) v
+  v ← fn1! (setCcIf (bit i 52)) v
   v ← fn1! (set (rd i)) v
   pure v
 

@@ -10,8 +10,10 @@ use Rattle.strip.specs.declared.reader.Entry.{Entry}
 use Rattle.strip.specs.Entry.{encode}
 use Rattle.translation.specs.declared.writer.Pos.{Pos}
 use Rattle.translation.specs.declared.writer.Made.{Made}
+use Rattle.translation.specs.declared.helper.Carry.{Carry}
+use Rattle.translation.specs.declared.helper.Carry.the-variants.{None, Word}
 use Rattle.translation.specs.Insn.{Insn}
-use Rattle.translation.specs.Helpers.{srcBc}
+use Rattle.translation.specs.Helpers.{srcBc, addWithFlags, carrySum}
 use Rattle.translation.specs.Code.{Code, ret, op, act, call, mark, ite, renamed, at as level, ats}
 
 -- the buffer, where the next byte goes, the next number, and the use mark that was raised: a slot and how many bytes of it (0: none)
@@ -77,3 +79,21 @@ pub record Does (b : Buffer) (m : Value) (c : Code) (rs : List ℕ) : Type 0 whe
 -- from b to b′ the words x and y are fetched: code k behind it, of a, x and y, is what `srcBc` has follow
 pub record Fetches (b b′ : Buffer) (i : Insn) (swap : Bool) (x y : ℕ) : Type 0 where
   pub is : (k : Code) (a : ℕ) (n : Value) → Does b′ n k (a ∷ x ∷ y ∷ []) → Does b n (srcBc i swap k) (a ∷ [])
+
+-- a carry: whether one is given, and the numbers that are
+unfoldable pub given : Carry → Bool
+given None = false
+given (Word n) = true
+
+unfoldable pub words : Carry → List ℕ
+words None = []
+words (Word n) = n ∷ []
+
+-- its number, or another where none is given: the Rust's `unwrap_or`
+unfoldable pub orElse : Carry → ℕ → ℕ
+orElse None f = f
+orElse (Word n) f = n
+
+-- from b to b′ the carry in of a sum is fetched: `add_with_flags` with it, of a and d, is what `carrySum` has follow
+pub record Carries (b b′ : Buffer) (x one : Bool) (c : Carry) : Type 0 where
+  pub is : (cc : Bool) (a d : ℕ) (n : Value) → Does b′ n (addWithFlags (given c) cc) (a ∷ d ∷ words c) → Does b n (carrySum x one cc) (a ∷ d ∷ [])

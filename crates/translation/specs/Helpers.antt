@@ -101,33 +101,29 @@ signedOverflow = fn3 λ a b v. do
   o ← sLessThan both zero!
   pure o
 
--- `set_cc` with a carry and an overflow, and with neither
-unfoldable pub setCc : Code
-setCc = fn3 λ v c o. do
+-- `set_cc` of the word v: of the false that it loads, which words the flags C and O are stored from
+abbrev pub setCcOf : ℕ → (c o : ℕ → ℕ) → Mk
+setCcOf v c o = do
   zero! ← u 0
   z ← iEqual v zero!
   s ← sLessThan v zero!
   f ← constantFalse
   storeFlag 0 z
   storeFlag 1 s
-  storeFlag 2 c
-  storeFlag 3 o
+  storeFlag 2 (c f)
+  storeFlag 3 (o f)
   pure v
 
-unfoldable pub setCcNone : Bool → Code
-setCcNone on =
-    ite on
-    (fn1 λ v. do
-      zero! ← u 0
-      z ← iEqual v zero!
-      s ← sLessThan v zero!
-      f ← constantFalse
-      storeFlag 0 z
-      storeFlag 1 s
-      storeFlag 2 f
-      storeFlag 3 f
-      pure v)
-    same
+-- whether a carry and an overflow are given; where one is not, the flag is false
+unfoldable pub setCc : (carry overflow : Bool) → Code
+setCc true true = fn3 λ v c o. setCcOf v (λ f. c) (λ f. o)
+setCc true false = fn2 λ v c. setCcOf v (λ f. c) (λ f. f)
+setCc false true = fn2 λ v o. setCcOf v (λ f. f) (λ f. o)
+setCc false false = fn1 λ v. setCcOf v (λ f. f) (λ f. f)
+
+-- where it is asked for, with neither
+unfoldable pub setCcIf : Bool → Code
+setCcIf on = ite on (setCc false false) same
 
 -- the flags of a sum, where they are asked for
 unfoldable pub setSumCc : Bool → Code
@@ -135,23 +131,13 @@ setSumCc cc =
     ite cc
     (fn4 λ a b v c. do
       o ← fn3! signedOverflow a b v
-      v ← fn3! setCc v c o
+      v ← fn3! (setCc true true) v c o
       pure v)
     (fn4 λ a b v c. pure v)
 
--- `add_with_flags` without a carry in, and with one
-unfoldable pub addWithFlags : Bool → Code
-addWithFlags cc =
-    ite cc
-    (fn2 λ a b. do
-      v ← iAdd a b
-      c ← uLessThan v a
-      v ← fn4! (setSumCc true) a b v c
-      pure v)
-    (fn2 λ a b. do v ← iAdd a b; pure v)
-
-unfoldable pub addWithCarry : Bool → Code
-addWithCarry cc = fn3 λ a b cin. do
+-- `add_with_flags`: whether a carry in is given
+unfoldable pub addWithFlags : (given cc : Bool) → Code
+addWithFlags true cc = fn3 λ a b cin. do
   v ← iAdd a b
   c ← uLessThan v a
   v2 ← iAdd v cin
@@ -159,6 +145,30 @@ addWithCarry cc = fn3 λ a b cin. do
   carry ← logicalOr c c2
   v ← fn4! (setSumCc cc) a b v2 carry
   pure v
+addWithFlags false cc =
+    ite cc
+    (fn2 λ a b. do
+      v ← iAdd a b
+      c ← uLessThan v a
+      v ← fn4! (setSumCc cc) a b v c
+      pure v)
+    (fn2 λ a b. do v ← iAdd a b; pure v)
+
+-- the carry in of a sum is the flag (x), one, or none: of a and b, the sum with it
+unfoldable pub carryFlagSum : Bool → Code
+carryFlagSum cc = fn2 λ a b. do
+  c ← fn0! carryFlag
+  v ← fn3! (addWithFlags true cc) a b c
+  pure v
+
+unfoldable pub carryOneSum : Bool → Code
+carryOneSum cc = fn2 λ a b. do
+  c ← u 1
+  v ← fn3! (addWithFlags true cc) a b c
+  pure v
+
+unfoldable pub carrySum : (x one cc : Bool) → Code
+carrySum x one cc = ite x (carryFlagSum cc) (ite one (carryOneSum cc) (addWithFlags false cc))
 
 unfoldable pub saturateAdd : Bool → Code
 saturateAdd on =

@@ -7,3 +7,4 @@ pub mod Marks
 pub mod Strip
 pub mod Emit
 pub mod Whole
+pub mod Turn

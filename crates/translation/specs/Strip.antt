@@ -90,24 +90,24 @@ admits l =
     eqb (length l) 18
     && (known (getD l 0 0) && (not (ltb 2 (insnOf l .form)) && (not (laneMov (getD l 0 0) (insnOf l)) && not (byteThree (getD l 0 0) (insnOf l)))))
 
--- ---- the answer: the strip's length or a refusal, the marks, the room
+-- ---- what is decided: the strip's length or a refusal, the marks, the room
 
-pub record Answer : Type 0 where
+pub record Decision : Type 0 where
   pub outcome : Outcome
   pub marks : List ℕ
   pub out : List ℕ
 
-abbrev pub refused : Refusal → List ℕ → List ℕ → Answer
+abbrev pub refused : Refusal → List ℕ → List ℕ → Decision
 refused r m out = record { outcome = Refused r; marks = m; out = out }
 
-unfoldable pub fitted : ℕ → Insn → List ℕ → List ℕ → Answer
+unfoldable pub fitted : ℕ → Insn → List ℕ → List ℕ → Decision
 fitted k i m out =
     cond (leb (length (strip k i)) (length out))
     (record { outcome = Written (length (strip k i)); marks = marked k i m; out = strip k i ++ drop (length (strip k i)) out })
     (refused NoRoom m out)
 
 -- the first refusal that holds
-unfoldable pub admitted : ℕ → Insn → List ℕ → List ℕ → Answer
+unfoldable pub admitted : ℕ → Insn → List ℕ → List ℕ → Decision
 admitted k i m out =
     cond (known k)
     (cond (ltb 2 (i .form)) (refused UnknownForm m out)
@@ -115,5 +115,19 @@ admitted k i m out =
     (cond (byteThree k i) (refused ByteThree m out) (fitted k i m out))))
     (refused UnknownKind m out)
 
+unfoldable pub decision : List ℕ → List ℕ → List ℕ → Decision
+decision l m out = cond (eqb (length l) 18) (admitted (getD l 0 0) (insnOf l) m out) (refused BadLength m out)
+
+-- ---- the answer: 01's number, 0 where the record is accepted; the strip's length, 0 of a refusal; the marks, the room
+
+pub record Answer : Type 0 where
+  pub number : ℕ
+  pub length : ℕ
+  pub marks : List ℕ
+  pub out : List ℕ
+
+abbrev pub answerOf : Decision → Answer
+answerOf d = record { number = numberOf (d .outcome); length = written (d .outcome); marks = d .marks; out = d .out }
+
 unfoldable pub translation : List ℕ → List ℕ → List ℕ → Answer
-translation l m out = cond (eqb (length l) 18) (admitted (getD l 0 0) (insnOf l) m out) (refused BadLength m out)
+translation l m out = answerOf (decision l m out)

@@ -8,7 +8,7 @@ use Rattle.translation.specs.Insn.{Insn}
 use Rattle.translation.specs.Helpers.{p}
 use Rattle.translation.specs.Arms.{armOf}
 use Rattle.translation.specs.Emit.{Buffer, Value, wrote, emits}
-use Rattle.translation.specs.Strip.{Answer, guard, guardNot}
+use Rattle.translation.specs.Strip.{Decision, guard, guardNot}
 use Rattle.translation.specs.declared.answer.Translated as D
 
 -- behind the arm: the end; in a block, the close before it
@@ -20,5 +20,5 @@ writes k i b =
     (emits (armOf k i) [] (wrote (Of.One 100 (emits (p (guard i) (guardNot i)) [] b .number)) (emits (p (guard i) (guardNot i)) [] b .buffer)) .buffer)))
 
 -- what the entry point hands back and leaves behind
-abbrev pub answered : D.Translated → List ℕ → Answer
+abbrev pub answered : D.Translated → List ℕ → Decision
 answered t out = record { outcome = t .outcome; marks = t .«cbuf_used»; out = out }

@@ -7,7 +7,7 @@ ghost use lib.Seq.{paste};
 ghost use Rattle.translation.specs.Arms.{armOf, bitArm, sumArm, wordArm};
 ghost use Rattle.translation.specs.Emit.{view, seen, Does};
 ghost use Rattle.translation.specs.Marks.{raise};
-ghost use Rattle.translation.specs.Strip.{guard, refusalNumber, known, laneMov, byteThree, halfAt, wordAt, fitted, admitted, translation};
+ghost use Rattle.translation.specs.Strip.{guard, refusalNumber, known, laneMov, byteThree, halfAt, wordAt, fitted, admitted, answerOf, translation};
 ghost use Rattle.translation.specs.Whole.{writes, answered};
 use crate::arm::bfe;
 use crate::arm::bfi;
@@ -314,7 +314,7 @@ fn word_at(s: &[u8], at: usize) -> u64
 
 // A record's strip at the front of out, and nothing else of it; or a refusal, which leaves the marks and out as they are.
 pub fn translate(bytes: &[u8], cbuf_used: [u32; 32], out: &mut [u8]) -> Translated
-    ensures { λ r. ⌜ answered r (now (out .exit)) ≡ translation (now (bytes .entry)) «cbuf_used» (now (out .entry)) ⌝ }
+    ensures { λ r. ⌜ answerOf (answered r (now (out .exit))) ≡ translation (now (bytes .entry)) «cbuf_used» (now (out .entry)) ⌝ }
 {
     if bytes.len() != 18 {
         return refused(Refusal::BadLength, cbuf_used);

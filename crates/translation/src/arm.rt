@@ -1,18 +1,17 @@
 // The thirty arms of `op` (translate.rs), and their parts: each writes the entries of its definition in specs/Arms.antt.
 ghost use mathlib.Core.List.{[], _∷_};
 ghost use Prim.Native.Nat.{_<_, _≤_};
-ghost use Rattle.translation.specs.Arms.{absolute, addFlag, addOne, bfe, bfi, bfiOf, csetp, extractField, fieldOf, findMsb, flo, floShift, i2i, iadd, iadd3, iadd32i, iadd3Fetch, iadd3Of, iadd3Shift, iadd3Sum, iaddOf, iaddSum, icmp, icmpOf, icompare, imnmx, insertField, iscadd, lea, leaB, leaJoin, leaWord, loadCell, lop, lop32i, lop3Arm, lopPredicate, lopTest, lopWord, maxOf, minOf, minOrMax, mov, mov32i, noteUnless, p2r, p2rTurn, p2rTurns, pcombine, popc, prepared, r2p, r2pTurn, r2pTurns, reverseIf, saturateIf, sel, setEither, setTruth, setWord, setpBoth, shf, shfAmount, shfOf, shfSelect, shfWord, shl, shr, storeCell, useField, vmnmx, vmnmxB, vmnmxFirst, vmnmxInsert, vmnmxMerge, vmnmxMixed, vmnmxOf, vmnmxSaturate, vmnmxWord, xmad, xmadAlter, xmadFetch, xmadMerge, xmadOf, xmadProduct, xmadShift};
+ghost use Rattle.translation.specs.Arms.{absolute, bfe, bfi, bfiOf, csetp, extractField, fieldOf, findMsb, flo, floShift, i2i, iadd, iadd3, iadd32i, iadd3Fetch, iadd3Of, iadd3Shift, iaddOf, icmp, icmpOf, icompare, imnmx, insertField, iscadd, lea, leaB, leaJoin, leaWord, loadCell, lop, lop32i, lop3Arm, lopPredicate, lopTest, lopWord, maxOf, minOf, minOrMax, mov, mov32i, noteUnless, p2r, p2rTurn, p2rTurns, pcombine, popc, prepared, r2p, r2pTurn, r2pTurns, reverseIf, saturateIf, sel, setEither, setTruth, setWord, setpBoth, shf, shfAmount, shfOf, shfSelect, shfWord, shl, shr, storeCell, useField, vmnmx, vmnmxB, vmnmxFirst, vmnmxInsert, vmnmxMerge, vmnmxMixed, vmnmxOf, vmnmxSaturate, vmnmxWord, xmad, xmadAlter, xmadFetch, xmadMerge, xmadOf, xmadProduct, xmadShift};
 ghost use Rattle.translation.specs.Helpers.{p, r, set};
 ghost use Rattle.translation.specs.Insn.{bit, bits, ra, rc, rd};
 ghost use Rattle.translation.specs.Emit.{view, seen, Does};
-use crate::helper::add_with_carry;
 use crate::helper::add_with_flags;
 use crate::helper::b2u;
 use crate::helper::bool_op;
-use crate::helper::carry_flag;
 use crate::helper::cbuf_imm;
 use crate::helper::cc_test;
 use crate::helper::extract;
+use crate::helper::flag_carry;
 use crate::helper::half_select;
 use crate::helper::half16;
 use crate::helper::ineg;
@@ -26,11 +25,12 @@ use crate::helper::r;
 use crate::helper::saturate_add;
 use crate::helper::saturate_int;
 use crate::helper::set;
-use crate::helper::set_cc_none;
+use crate::helper::set_cc_if;
 use crate::helper::setp;
 use crate::helper::shift;
 use crate::helper::src_b;
 use crate::helper::src_bc;
+use crate::helper::sum_carry;
 use crate::helper::video_operand;
 use crate::insn::Insn;
 use crate::insn::bit;
@@ -143,7 +143,7 @@ pub fn set_truth(buf: &mut [u8; 264], at: Pos, i: Insn, c: u8) -> Made
     ensures { λ m. ⌜ Does (view (now (buf .entry)) at) (seen (now (buf .exit)) m) (setTruth i) (c ∷ []) ⌝ }
 {
     let v = b2u(buf, at, truth_word(i), 0, c);
-    let v2 = set_cc_none(buf, v.pos, bit(i, 47), v.value);
+    let v2 = set_cc_if(buf, v.pos, bit(i, 47), v.value);
     set_d(buf, v2.pos, i, v2.value)
 }
 
@@ -206,35 +206,6 @@ pub fn prepared(buf: &mut [u8; 264], at: Pos, complement: bool, on: bool, v: u8)
     }
 }
 
-// with the flag as carry in
-pub fn add_flag(buf: &mut [u8; 264], at: Pos, cc: bool, a: u8, b: u8) -> Made
-    ensures { λ m. ⌜ Does (view (now (buf .entry)) at) (seen (now (buf .exit)) m) (addFlag cc) (a ∷ b ∷ []) ⌝ }
-{
-    let c = carry_flag(buf, at);
-    add_with_carry(buf, c.pos, cc, a, b, c.value)
-}
-
-// with one as carry in
-pub fn add_one(buf: &mut [u8; 264], at: Pos, cc: bool, a: u8, b: u8) -> Made
-    ensures { λ m. ⌜ Does (view (now (buf .entry)) at) (seen (now (buf .exit)) m) (addOne cc) (a ∷ b ∷ []) ⌝ }
-{
-    let c = u(buf, at, 1);
-    add_with_carry(buf, c.pos, cc, a, b, c.value)
-}
-
-// the sum, with the carry in that belongs to it: the flag, one, or none
-pub fn iadd_sum(buf: &mut [u8; 264], at: Pos, x: bool, one: bool, cc: bool, a: u8, b: u8) -> Made
-    ensures { λ m. ⌜ Does (view (now (buf .entry)) at) (seen (now (buf .exit)) m) (iaddSum x one cc) (a ∷ b ∷ []) ⌝ }
-{
-    if x {
-        return add_flag(buf, at, cc, a, b);
-    }
-    if one {
-        return add_one(buf, at, cc, a, b);
-    }
-    add_with_flags(buf, at, cc, a, b)
-}
-
 pub fn iadd_of(
     buf: &mut [u8; 264],
     at: Pos,
@@ -252,7 +223,9 @@ pub fn iadd_of(
     let complement = either(x, na != nb);
     let a = prepared(buf, at, complement, na, a);
     let b = prepared(buf, a.pos, complement, nb, b);
-    let v = iadd_sum(buf, b.pos, x, na != nb, cc, a.value, b.value);
+    let c = sum_carry(buf, b.pos, x, na != nb);
+    let carry = c.carry;
+    let v = add_with_flags(buf, c.pos, a.value, b.value, carry, cc);
     let v2 = saturate_add(buf, v.pos, sat, a.value, b.value, v.value);
     set(buf, v2.pos, d, v2.value)
 }
@@ -305,16 +278,6 @@ pub fn iadd3_shift(buf: &mut [u8; 264], at: Pos, s: u8, v: u8, n: u8) -> Made
     }
 }
 
-pub fn iadd3_sum(buf: &mut [u8; 264], at: Pos, x: bool, cc: bool, a: u8, b: u8) -> Made
-    ensures { λ m. ⌜ Does (view (now (buf .entry)) at) (seen (now (buf .exit)) m) (iadd3Sum x cc) (a ∷ b ∷ []) ⌝ }
-{
-    if x {
-        add_flag(buf, at, cc, a, b)
-    } else {
-        add_with_flags(buf, at, cc, a, b)
-    }
-}
-
 pub fn iadd3_of(buf: &mut [u8; 264], at: Pos, i: Insn, a: u8, b: u8, c: u8) -> Made
     ensures { λ m. ⌜ Does (view (now (buf .entry)) at) (seen (now (buf .exit)) m) (iadd3Of i) (a ∷ b ∷ c ∷ []) ⌝ }
 {
@@ -324,7 +287,10 @@ pub fn iadd3_of(buf: &mut [u8; 264], at: Pos, i: Insn, a: u8, b: u8, c: u8) -> M
     let ab = two(buf, c.pos, 40, a.value, b.value);
     let sixteen = u(buf, ab.pos, 16);
     let ab2 = iadd3_shift(buf, sixteen.pos, iadd3_count(i), ab.value, sixteen.value);
-    let v = iadd3_sum(buf, ab2.pos, bit(i, 48), bit(i, 47), ab2.value, c.value);
+    let cc = bit(i, 47);
+    let cin = flag_carry(buf, ab2.pos, bit(i, 48));
+    let carry = cin.carry;
+    let v = add_with_flags(buf, cin.pos, ab2.value, c.value, carry, cc);
     set_d(buf, v.pos, i, v.value)
 }
 
@@ -549,7 +515,7 @@ pub fn lop(buf: &mut [u8; 264], at: Pos, i: Insn) -> Made
     let a2 = inot(buf, a.pos, bit(i, 39), a.value);
     let b2 = inot(buf, a2.pos, bit(i, 40), b.value);
     let v = lop_word(buf, b2.pos, bits8(i, 41, 2), a2.value, b2.value);
-    let v2 = set_cc_none(buf, v.pos, bit(i, 47), v.value);
+    let v2 = set_cc_if(buf, v.pos, bit(i, 47), v.value);
     let v3 = lop_predicate(buf, v2.pos, i, v2.value);
     set_d(buf, v3.pos, i, v3.value)
 }
@@ -562,7 +528,7 @@ pub fn lop32i(buf: &mut [u8; 264], at: Pos, i: Insn) -> Made
     let a2 = inot(buf, a.pos, bit(i, 55), a.value);
     let b2 = inot(buf, a2.pos, bit(i, 56), b.value);
     let v = lop_word(buf, b2.pos, bits8(i, 53, 2), a2.value, b2.value);
-    let v2 = set_cc_none(buf, v.pos, bit(i, 52), v.value);
+    let v2 = set_cc_if(buf, v.pos, bit(i, 52), v.value);
     set_d(buf, v2.pos, i, v2.value)
 }
 

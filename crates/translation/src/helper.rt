@@ -1,9 +1,11 @@
 // The Rust's helpers (translate.rs): each writes the entries of its definition in specs/Helpers.antt.
-ghost use mathlib.Core.List.{[], _∷_};
+ghost use mathlib.Core.Path.{_≡_};
+ghost use mathlib.Core.Bool.{true, false};
+ghost use mathlib.Core.List.{[], _∷_, _++_};
 ghost use Prim.Native.Nat.{_<_, _≤_};
-ghost use Rattle.translation.specs.Helpers.{addWithCarry, addWithFlags, b2u, boolOp, carryFlag, cbufAt, cbufImm, ccCase, ccFlags, ccTest, clampHigh, extract, field, greaterThan, greaterThanEqual, half16, halfSelect, ineg, inot, intCmp, intSource, lessThan, lessThanEqual, logicalNotIf, lop3, lop3Row, lop3Rows, p, predicate, r, saturateAdd, saturateBy, saturateInt, set, setCc, setCcNone, setSumCc, setp, shift, shiftEnd, shiftFill, shifted, signedOverflow, srcB, videoOperand};
+ghost use Rattle.translation.specs.Helpers.{addWithFlags, b2u, boolOp, carryFlag, cbufAt, cbufImm, ccCase, ccFlags, ccTest, clampHigh, extract, field, greaterThan, greaterThanEqual, half16, halfSelect, ineg, inot, intCmp, intSource, lessThan, lessThanEqual, logicalNotIf, lop3, lop3Row, lop3Rows, p, predicate, r, saturateAdd, saturateBy, saturateInt, set, setCc, setCcIf, setSumCc, setp, shift, shiftEnd, shiftFill, shifted, signedOverflow, srcB, videoOperand};
 ghost use Rattle.translation.specs.Insn.{cslot, cword};
-ghost use Rattle.translation.specs.Emit.{view, seen, Does, Fetches};
+ghost use Rattle.translation.specs.Emit.{view, seen, Does, Fetches, given, words, orElse, Carries};
 use crate::insn::Insn;
 use crate::insn::cslot;
 use crate::insn::cword;
@@ -204,9 +206,30 @@ pub fn signed_overflow(buf: &mut [u8; 264], at: Pos, a: u8, b: u8, v: u8) -> Mad
     two(buf, both.pos, 66, both.value, zero.value)
 }
 
-// `set_cc` with a carry and an overflow, and with neither
-pub fn set_cc(buf: &mut [u8; 264], at: Pos, v: u8, c: u8, o: u8) -> Made
-    ensures { λ m. ⌜ Does (view (now (buf .entry)) at) (seen (now (buf .exit)) m) setCc (v ∷ c ∷ o ∷ []) ⌝ }
+// A word that is given or not: the Rust's `Option<Word>`.
+pub enum Carry {
+    None,
+    Word(u8),
+}
+
+// The position after the carry in of a sum, and the carry.
+pub struct Carried {
+    pub pos: Pos,
+    pub carry: Carry,
+}
+
+// Its number, or another where none is given.
+fn or_else(c: Carry, f: u8) -> u8
+    ensures { λ r. ⌜ r ≡ orElse c f ⌝ }
+{
+    match c {
+        Carry::None => f,
+        Carry::Word(n) => n,
+    }
+}
+
+pub fn set_cc(buf: &mut [u8; 264], at: Pos, v: u8, carry: Carry, overflow: Carry) -> Made
+    ensures { λ m. ⌜ Does (view (now (buf .entry)) at) (seen (now (buf .exit)) m) (setCc (given carry) (given overflow)) (v ∷ words carry ++ words overflow) ⌝ }
 {
     let zero = u(buf, at, 0);
     let z = two(buf, zero.pos, 60, v, zero.value);
@@ -214,24 +237,17 @@ pub fn set_cc(buf: &mut [u8; 264], at: Pos, v: u8, c: u8, o: u8) -> Made
     let f = truth(buf, s.pos, 3);
     let q = store(buf, f.pos, 9, 0, z.value);
     let q = store(buf, q, 9, 1, s.value);
-    let q = store(buf, q, 9, 2, c);
-    let q = store(buf, q, 9, 3, o);
+    let q = store(buf, q, 9, 2, or_else(carry, f.value));
+    let q = store(buf, q, 9, 3, or_else(overflow, f.value));
     Made { pos: q, value: v }
 }
 
-pub fn set_cc_none(buf: &mut [u8; 264], at: Pos, on: bool, v: u8) -> Made
-    ensures { λ m. ⌜ Does (view (now (buf .entry)) at) (seen (now (buf .exit)) m) (setCcNone on) (v ∷ []) ⌝ }
+// where it is asked for, with neither
+pub fn set_cc_if(buf: &mut [u8; 264], at: Pos, on: bool, v: u8) -> Made
+    ensures { λ m. ⌜ Does (view (now (buf .entry)) at) (seen (now (buf .exit)) m) (setCcIf on) (v ∷ []) ⌝ }
 {
     if on {
-        let zero = u(buf, at, 0);
-        let z = two(buf, zero.pos, 60, v, zero.value);
-        let s = two(buf, z.pos, 66, v, zero.value);
-        let f = truth(buf, s.pos, 3);
-        let q = store(buf, f.pos, 9, 0, z.value);
-        let q = store(buf, q, 9, 1, s.value);
-        let q = store(buf, q, 9, 2, f.value);
-        let q = store(buf, q, 9, 3, f.value);
-        Made { pos: q, value: v }
+        set_cc(buf, at, v, Carry::None, Carry::None)
     } else {
         Made { pos: at, value: v }
     }
@@ -243,27 +259,28 @@ pub fn set_sum_cc(buf: &mut [u8; 264], at: Pos, cc: bool, a: u8, b: u8, v: u8, c
 {
     if cc {
         let o = signed_overflow(buf, at, a, b, v);
-        set_cc(buf, o.pos, v, c, o.value)
+        set_cc(buf, o.pos, v, Carry::Word(c), Carry::Word(o.value))
     } else {
         Made { pos: at, value: v }
     }
 }
 
-// `add_with_flags` without a carry in, and with one
-pub fn add_with_flags(buf: &mut [u8; 264], at: Pos, cc: bool, a: u8, b: u8) -> Made
-    ensures { λ m. ⌜ Does (view (now (buf .entry)) at) (seen (now (buf .exit)) m) (addWithFlags cc) (a ∷ b ∷ []) ⌝ }
+// `add_with_flags` where no carry is given
+fn add_plain(buf: &mut [u8; 264], at: Pos, cc: bool, a: u8, b: u8) -> Made
+    ensures { λ m. ⌜ Does (view (now (buf .entry)) at) (seen (now (buf .exit)) m) (addWithFlags false cc) (a ∷ b ∷ []) ⌝ }
 {
     if cc {
         let v = two(buf, at, 40, a, b);
         let c = two(buf, v.pos, 62, v.value, a);
-        set_sum_cc(buf, c.pos, true, a, b, v.value, c.value)
+        set_sum_cc(buf, c.pos, cc, a, b, v.value, c.value)
     } else {
         two(buf, at, 40, a, b)
     }
 }
 
-pub fn add_with_carry(buf: &mut [u8; 264], at: Pos, cc: bool, a: u8, b: u8, cin: u8) -> Made
-    ensures { λ m. ⌜ Does (view (now (buf .entry)) at) (seen (now (buf .exit)) m) (addWithCarry cc) (a ∷ b ∷ cin ∷ []) ⌝ }
+// and where one is
+fn add_carry(buf: &mut [u8; 264], at: Pos, cc: bool, a: u8, b: u8, cin: u8) -> Made
+    ensures { λ m. ⌜ Does (view (now (buf .entry)) at) (seen (now (buf .exit)) m) (addWithFlags true cc) (a ∷ b ∷ cin ∷ []) ⌝ }
 {
     let v = two(buf, at, 40, a, b);
     let c = two(buf, v.pos, 62, v.value, a);
@@ -271,6 +288,60 @@ pub fn add_with_carry(buf: &mut [u8; 264], at: Pos, cc: bool, a: u8, b: u8, cin:
     let c2 = two(buf, v2.pos, 62, v2.value, v.value);
     let carry = two(buf, c2.pos, 82, c.value, c2.value);
     set_sum_cc(buf, carry.pos, cc, a, b, v2.value, carry.value)
+}
+
+// The cases stand apart, so that this is small and is compiled into each arm, which goes straight to its case.
+pub fn add_with_flags(buf: &mut [u8; 264], at: Pos, a: u8, b: u8, carry_in: Carry, cc: bool) -> Made
+    ensures { λ m. ⌜ Does (view (now (buf .entry)) at) (seen (now (buf .exit)) m) (addWithFlags (given «carry_in») cc) (a ∷ b ∷ words «carry_in») ⌝ }
+{
+    match carry_in {
+        Carry::None => add_plain(buf, at, cc, a, b),
+        Carry::Word(cin) => add_carry(buf, at, cc, a, b, cin),
+    }
+}
+
+// the carry in of a sum: the flag with extend, one, or none; `add_with_flags` takes it
+pub fn sum_carry(buf: &mut [u8; 264], at: Pos, x: bool, one: bool) -> Carried
+    ensures { λ m. ⌜ Carries (view (now (buf .entry)) at) (view (now (buf .exit)) (m .pos)) x one (m .carry) ⌝ }
+{
+    if x {
+        let c = carry_flag(buf, at);
+        let pos = c.pos;
+        return Carried {
+            pos: pos,
+            carry: Carry::Word(c.value),
+        };
+    }
+    if one {
+        let c = u(buf, at, 1);
+        let pos = c.pos;
+        return Carried {
+            pos: pos,
+            carry: Carry::Word(c.value),
+        };
+    }
+    Carried {
+        pos: at,
+        carry: Carry::None,
+    }
+}
+
+// the same without the one
+pub fn flag_carry(buf: &mut [u8; 264], at: Pos, x: bool) -> Carried
+    ensures { λ m. ⌜ Carries (view (now (buf .entry)) at) (view (now (buf .exit)) (m .pos)) x false (m .carry) ⌝ }
+{
+    if x {
+        let c = carry_flag(buf, at);
+        let pos = c.pos;
+        return Carried {
+            pos: pos,
+            carry: Carry::Word(c.value),
+        };
+    }
+    Carried {
+        pos: at,
+        carry: Carry::None,
+    }
 }
 
 pub fn saturate_add(buf: &mut [u8; 264], at: Pos, on: bool, a: u8, b: u8, v: u8) -> Made

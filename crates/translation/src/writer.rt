@@ -1,5 +1,5 @@
-// Writing a strip: its bytes go into a lent buffer, and the position is handed on by value. Nothing is asked of a caller: positions and numbers are
-// counted modulo 256, and the buffer has 8 bytes beyond, which is the longest body. No strip comes near it.
+// Writing a strip: strip's writer puts each entry into a lent buffer, and the position is handed on by value. Nothing is asked of a caller: positions
+// and numbers are counted modulo 256, and the buffer has 8 bytes beyond, which is the longest body, so the writer always finds room. No strip comes near it.
 ghost use mathlib.Core.Path.{_≡_};
 ghost use mathlib.Core.List.{List};
 ghost use Prim.Native.Nat.{ℕ, _+_, _*_, _%_};
@@ -9,6 +9,14 @@ use crate::insn::Insn;
 use crate::insn::cslot;
 use crate::insn::cword;
 use strip::Entry;
+use strip::write_bare;
+use strip::write_cell;
+use strip::write_four;
+use strip::write_one;
+use strip::write_store;
+use strip::write_three;
+use strip::write_two;
+use strip::write_word;
 
 // Where the next byte goes, the next number, and the use mark raised: its slot and how many words of it (0: none).
 // With a value beside it this is 8 bytes, so that it is handed on and back in a register.
@@ -76,11 +84,7 @@ pub fn u(buf: &mut [u8; 264], p: Pos, w: u32) -> Made
     ensures { λ r. ⌜ Makes (view (now (buf .entry)) p) (seen (now (buf .exit)) r) (Entry.Word w) ⌝ }
 {
     let at = p.at as usize;
-    buf[at] = 1;
-    buf[at + 1] = (w % 256) as u8;
-    buf[at + 2] = (w / 256 % 256) as u8;
-    buf[at + 3] = (w / 65536 % 256) as u8;
-    buf[at + 4] = (w / 16777216) as u8;
+    write_word(buf, at, w);
     next(p, 5)
 }
 
@@ -89,7 +93,7 @@ pub fn truth(buf: &mut [u8; 264], p: Pos, k: u8) -> Made
     ensures { λ r. ⌜ Makes (view (now (buf .entry)) p) (seen (now (buf .exit)) r) (Entry.Bare k) ⌝ }
 {
     let at = p.at as usize;
-    buf[at] = k;
+    write_bare(buf, at, k);
     next(p, 1)
 }
 
@@ -98,8 +102,7 @@ pub fn cell(buf: &mut [u8; 264], p: Pos, k: u8, n: u8) -> Made
     ensures { λ r. ⌜ Makes (view (now (buf .entry)) p) (seen (now (buf .exit)) r) (Entry.Cell k n) ⌝ }
 {
     let at = p.at as usize;
-    buf[at] = k;
-    buf[at + 1] = n;
+    write_cell(buf, at, k, n);
     next(p, 2)
 }
 
@@ -107,9 +110,7 @@ pub fn one(buf: &mut [u8; 264], p: Pos, k: u8, a: u8) -> Made
     ensures { λ r. ⌜ Makes (view (now (buf .entry)) p) (seen (now (buf .exit)) r) (Entry.One k a) ⌝ }
 {
     let at = p.at as usize;
-    buf[at] = k;
-    buf[at + 1] = a;
-    buf[at + 2] = 0;
+    write_one(buf, at, k, a as u16);
     next(p, 3)
 }
 
@@ -117,11 +118,7 @@ pub fn two(buf: &mut [u8; 264], p: Pos, k: u8, a: u8, b: u8) -> Made
     ensures { λ r. ⌜ Makes (view (now (buf .entry)) p) (seen (now (buf .exit)) r) (Entry.Two k a b) ⌝ }
 {
     let at = p.at as usize;
-    buf[at] = k;
-    buf[at + 1] = a;
-    buf[at + 2] = 0;
-    buf[at + 3] = b;
-    buf[at + 4] = 0;
+    write_two(buf, at, k, a as u16, b as u16);
     next(p, 5)
 }
 
@@ -129,13 +126,7 @@ pub fn three(buf: &mut [u8; 264], p: Pos, k: u8, a: u8, b: u8, c: u8) -> Made
     ensures { λ r. ⌜ Makes (view (now (buf .entry)) p) (seen (now (buf .exit)) r) (Entry.Three k a b c) ⌝ }
 {
     let at = p.at as usize;
-    buf[at] = k;
-    buf[at + 1] = a;
-    buf[at + 2] = 0;
-    buf[at + 3] = b;
-    buf[at + 4] = 0;
-    buf[at + 5] = c;
-    buf[at + 6] = 0;
+    write_three(buf, at, k, a as u16, b as u16, c as u16);
     next(p, 7)
 }
 
@@ -143,15 +134,7 @@ pub fn four(buf: &mut [u8; 264], p: Pos, k: u8, a: u8, b: u8, c: u8, d: u8) -> M
     ensures { λ r. ⌜ Makes (view (now (buf .entry)) p) (seen (now (buf .exit)) r) (Entry.Four k a b c d) ⌝ }
 {
     let at = p.at as usize;
-    buf[at] = k;
-    buf[at + 1] = a;
-    buf[at + 2] = 0;
-    buf[at + 3] = b;
-    buf[at + 4] = 0;
-    buf[at + 5] = c;
-    buf[at + 6] = 0;
-    buf[at + 7] = d;
-    buf[at + 8] = 0;
+    write_four(buf, at, k, a as u16, b as u16, c as u16, d as u16);
     next(p, 9)
 }
 
@@ -159,10 +142,7 @@ pub fn store(buf: &mut [u8; 264], p: Pos, k: u8, n: u8, a: u8) -> Pos
     ensures { λ r. ⌜ Writes (view (now (buf .entry)) p) (view (now (buf .exit)) r) (Entry.Store k n a) ⌝ }
 {
     let at = p.at as usize;
-    buf[at] = k;
-    buf[at + 1] = n;
-    buf[at + 2] = a;
-    buf[at + 3] = 0;
+    write_store(buf, at, k, n, a as u16);
     skip(p, 4)
 }
 
@@ -170,8 +150,7 @@ pub fn note(buf: &mut [u8; 264], p: Pos, n: u8) -> Pos
     ensures { λ r. ⌜ Writes (view (now (buf .entry)) p) (view (now (buf .exit)) r) (Entry.Cell 110 n) ⌝ }
 {
     let at = p.at as usize;
-    buf[at] = 110;
-    buf[at + 1] = n;
+    write_cell(buf, at, 110, n);
     skip(p, 2)
 }
 
@@ -180,9 +159,7 @@ pub fn open(buf: &mut [u8; 264], p: Pos, a: u8) -> Pos
     ensures { λ r. ⌜ Writes (view (now (buf .entry)) p) (view (now (buf .exit)) r) (Entry.One 100 a) ⌝ }
 {
     let at = p.at as usize;
-    buf[at] = 100;
-    buf[at + 1] = a;
-    buf[at + 2] = 0;
+    write_one(buf, at, 100, a as u16);
     skip(p, 3)
 }
 
@@ -191,6 +168,6 @@ pub fn bare(buf: &mut [u8; 264], p: Pos, k: u8) -> Pos
     ensures { λ r. ⌜ Writes (view (now (buf .entry)) p) (view (now (buf .exit)) r) (Entry.Bare k) ⌝ }
 {
     let at = p.at as usize;
-    buf[at] = k;
+    write_bare(buf, at, k);
     skip(p, 1)
 }

@@ -5,8 +5,8 @@ use mathlib.Core.List.{List, _++_, append-nil}
 use native.Mathlib.Omega.{arith}
 use lib.ListN.{length, take, drop, length-append, length-drop}
 use lib.Seq.{take-all, length-take-le, drop-drop, drop-length}
-use Rattle.translation.specs.Strip.{Answer, numberOf, written, translation}
-use Rattle.translation.proofs.Shape.{Fitting, fits}
+use Rattle.translation.specs.Strip.{Answer, translation}
+use Rattle.translation.proofs.Shape.{fits}
 use Rattle.works.specs.declared.room.Turn.{Turn}
 use Rattle.works.specs.Room.{Room, behind, step, upTo, seen}
 
@@ -25,11 +25,16 @@ module _ {a : Answer} (l room : List ℕ) (t : Turn) (h : t .used ≤ length roo
   rest-is : a ≡ translation l (t .«cbuf_used») (drop (t .used) room)
   rest-is = e ∙ ap (translation l (t .«cbuf_used»)) (rest room (t .used))
 
-  rest-fits : Fitting (drop (t .used) room) a
-  rest-fits = rw rest-is (fits l (t .«cbuf_used») (drop (t .used) room))
+  pub rest-within : t .used + a .length ≤ length room
+  unfolding translation
+  rest-within =
+      let d = length-drop (t .used) room in
+      let w : a .length ≤ length (drop (t .used) room) = rw rest-is (fits l (t .«cbuf_used») (drop (t .used) room) .within) in
+      omega arith
 
-  pub rest-within : t .used + written (a .outcome) ≤ length room
-  rest-within = let d = length-drop (t .used) room in omega (arith, rest-fits .within)
+  rest-same : length (a .out) ≡ length (drop (t .used) room)
+  unfolding translation
+  rest-same = rw rest-is (fits l (t .«cbuf_used») (drop (t .used) room) .same)
 
   abbrev put : List ℕ
   put = take (t .used) room ++ (a .out ++ drop (length room - t .used) (drop (t .used) room))
@@ -37,9 +42,9 @@ module _ {a : Answer} (l room : List ℕ) (t : Turn) (h : t .used ≤ length roo
   pub put-length : length put ≡ length room
   put-length =
       ap length (put-rest room (a .out) (t .used) h) ∙ length-append (take (t .used) room) (a .out)
-      ∙ (let k = length-take-le (t .used) room h in let d = length-drop (t .used) room in omega (arith, rest-fits .same))
+      ∙ (let k = length-take-le (t .used) room h in let d = length-drop (t .used) room in omega (arith, rest-same))
 
-  pub put-is : (w n : ℕ) → w ≡ written (a .outcome) → n ≡ numberOf (a .outcome)
+  pub put-is : (w n : ℕ) → w ≡ a .length → n ≡ a .number
       → seen put (record { used = t .used + w; «cbuf_used» = a .marks; number = n }) ≡ behind (seen room t) (translation l (t .«cbuf_used») (drop (t .used) room))
   put-is w n p q = rw (p, q, put-rest room (a .out) (t .used) h) (ap (behind (seen room t)) rest-is)
 

@@ -5,7 +5,7 @@ use mathlib.Core.List.{List, _++_}
 use Prim.Native.Nat.{ℕ, zero, suc, _+_, _*_}
 use lib.Dec.{eqb}
 use lib.ListN.{take, drop}
-use Rattle.translation.specs.Strip.{Answer, numberOf, written, translation}
+use Rattle.translation.specs.Strip.{Answer, translation}
 use Rattle.works.specs.declared.room.Turn.{Turn}
 
 -- a room, how many of its bytes accepted strips fill, the use marks, and the number of the refusal, 0 where there is none
@@ -17,7 +17,7 @@ pub record Room : Type 0 where
 
 -- the room behind an answer
 abbrev pub behind : Room → Answer → Room
-behind r a = record { bytes = take (r .used) (r .bytes) ++ a .out; used = r .used + written (a .outcome); marks = a .marks; number = numberOf (a .outcome) }
+behind r a = record { bytes = take (r .used) (r .bytes) ++ a .out; used = r .used + a .length; marks = a .marks; number = a .number }
 
 -- behind a record; a refusal was the last one
 unfoldable pub step : List ℕ → Room → Room

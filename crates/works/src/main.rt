@@ -1,21 +1,22 @@
-// The two works of `samples/`, as accreditation examples: their records (the file `stdin`: count.bin, then conditions.bin) are translated in turn
-// into one room, and each work's run is evaluated from several starts. Each step is a line. The count adds 1 to 64 bits in R1 and R0; the
-// conditions add R1 to R0 and pack the flags into the low half of byte 1 of R2. The lines that must be written come from the meanings, by
-// `oracle works`. A refusal is written with its number, and is the last line.
+// The two works of `samples/`, as accreditation examples: from several starts their records (the file `stdin`: count.bin, then conditions.bin) are
+// interpreted one after another. Each step is a line. The count adds 1 to 64 bits in R1 and R0; the conditions add R1 to R0 and pack the flags
+// into the low half of byte 1 of R2. The records are also translated in turn into one room, and each work's run there must end in the same
+// state. The lines that must be written come from the meanings, by `oracle works`. A refusal is written with its number, and is the last line.
 mod room;
+mod steps;
 
 ghost use Prim.Native.Nat.{_+_, _*_, _^_, _%_, _/_, _<_, _≤_};
 ghost use mathlib.Core.Path.{_≡_};
 ghost use mathlib.Core.List.{[]};
 ghost use lib.ListN.{length};
-ghost use Rattle.evaluation.specs.Machine.{evaluated, numberOf};
+ghost use Rattle.evaluation.specs.Machine.{answerOf, evaluation};
 use evaluation::Evaluated;
-use evaluation::Outcome;
 use evaluation::State;
 use libc::STDIN_FILENO;
 use libc::STDOUT_FILENO;
 use room::empty;
 use room::in_turn;
+use steps::in_order;
 
 fn say(text: &[u8]) {
     io::write_all(STDOUT_FILENO, text);
@@ -32,19 +33,9 @@ fn refused(number: u32) {
     say(b"\n");
 }
 
-// 01's number, 0 where the run was evaluated.
-fn number_of(o: Outcome) -> u32
-    ensures { λ n. ⌜ n ≡ numberOf o ⌝ }
-{
-    match o {
-        Outcome::Done => 0,
-        Outcome::Refused(r) => evaluation::refusal_number(r),
-    }
-}
-
 // The works read no constant, and none is lent.
 fn evaluated(run: &[u8], s: State) -> Evaluated
-    ensures { λ r. ⌜ r ≡ evaluated (now (run .entry)) s [] ⌝ }
+    ensures { λ r. ⌜ answerOf r ≡ evaluation (now (run .entry)) s [] ⌝ }
 {
     let none = [0u32; 0];
     evaluation::evaluate(run, s, &none)
@@ -170,18 +161,38 @@ fn count_line(before: State, after: State) {
     others(kept(before, after, 2));
 }
 
+// The flags are the same.
+fn same_flags(a: State, b: State) -> bool {
+    let f = a.flags;
+    let g = b.flags;
+    f[0] == g[0] && f[1] == g[1] && f[2] == g[2] && f[3] == g[3]
+}
+
+// The work's run ends in the state that its records end in; else a line says so.
+fn compare(run: &[u8], before: State, after: State) {
+    let e = evaluated(run, before);
+    let end = e.state;
+    if kept(end, after, 0) && same_flags(end, after) {
+        return;
+    }
+    say(b"the run ends in another state\n");
+}
+
 // So many steps of the count. It answers the refusal's number, 0 where there is none.
-fn count(run: &[u8], from: u64, steps: u64) -> u32 {
+fn count(records: &[u8], run: &[u8], from: u64, steps: u64) -> u32
+    requires { ⌜ 36 ≤ length (now records) ⌝ }
+{
     let mut s = start(low(from), high(from), 0xabcd9fef);
     let mut left = steps;
     while left > 0 {
-        let e = evaluated(run, s);
-        let o = e.outcome;
-        let after = e.state;
-        let number = number_of(o);
+        let i = in_order(records, 2, s);
+        let o = i.outcome;
+        let after = i.state;
+        let number = meaning::outcome_number(o);
         if number != 0 {
             return number;
         }
+        compare(run, s, after);
         count_line(s, after);
         s = after;
         left -= 1;
@@ -198,10 +209,12 @@ const FROM: [u64; 5] = [
     0,
 ];
 
-fn counts(run: &[u8]) -> u32 {
+fn counts(records: &[u8], run: &[u8]) -> u32
+    requires { ⌜ 36 ≤ length (now records) ⌝ }
+{
     let mut i = 0;
     while i < 5 {
-        let number = count(run, FROM[i], 5);
+        let number = count(records, run, FROM[i], 5);
         if number != 0 {
             return number;
         }
@@ -239,13 +252,16 @@ fn conditions_line(before: State, after: State) {
     others(r[1] == s[1] && kept(before, after, 3));
 }
 
-fn condition(run: &[u8], a: u32, b: u32, r2: u32) -> u32 {
+fn condition(records: &[u8], run: &[u8], a: u32, b: u32, r2: u32) -> u32
+    requires { ⌜ 36 ≤ length (now records) ⌝ }
+{
     let s = start(a, b, r2);
-    let e = evaluated(run, s);
-    let o = e.outcome;
-    let after = e.state;
-    let number = number_of(o);
+    let i = in_order(records, 2, s);
+    let o = i.outcome;
+    let after = i.state;
+    let number = meaning::outcome_number(o);
     if number == 0 {
+        compare(run, s, after);
         conditions_line(s, after);
     }
     number
@@ -272,12 +288,14 @@ fn with_number(number: u32, half: u32) -> u32 {
 }
 
 // Each sum twice, over all numbers.
-fn conditions(run: &[u8]) -> u32 {
+fn conditions(records: &[u8], run: &[u8]) -> u32
+    requires { ⌜ 36 ≤ length (now records) ⌝ }
+{
     let mut i = 0;
     while i < 18 {
         let sum = i / 2;
         let r2 = with_number((i % 16) as u32, (i % 2 * 15) as u32);
-        let number = condition(run, A[sum], B[sum], r2);
+        let number = condition(records, run, A[sum], B[sum], r2);
         if number != 0 {
             return number;
         }
@@ -286,16 +304,16 @@ fn conditions(run: &[u8]) -> u32 {
     0
 }
 
-// Both works: the first one's run, and behind it the second one's.
-fn works(room: &[u8], from: usize, to: usize)
-    requires { ⌜ (from ≤ to) × (to ≤ length (now room)) ⌝ }
+// Both works: the first one's run, and after it the second one's.
+fn works(records: &[u8], room: &[u8], from: usize, to: usize)
+    requires { ⌜ (72 ≤ length (now records)) × ((from ≤ to) × (to ≤ length (now room))) ⌝ }
 {
-    let number = counts(&room[0..from]);
+    let number = counts(&records[0..36], &room[0..from]);
     if number != 0 {
         refused(number);
         return;
     }
-    let number = conditions(&room[from..to]);
+    let number = conditions(&records[36..72], &room[from..to]);
     if number != 0 {
         refused(number);
     }
@@ -315,5 +333,5 @@ fn main() {
         refused(both.number);
         return;
     }
-    works(&room, first.used, both.used);
+    works(&input, &room, first.used, both.used);
 }

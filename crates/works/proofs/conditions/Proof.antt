@@ -5,10 +5,10 @@ use Rattle.works.proofs.conditions.Statement.{statement}
 use Rattle.works.proofs.conditions.Tie as tie
 
 abbrev Inv-loop : tie.InvT-loop
-Inv-loop run i₀ i = i ≤ 18
+Inv-loop records run i₀ i = i ≤ 18
 
 abbrev μ-loop : tie.MeasureT-loop
-μ-loop run i₀ i = 18 - i
+μ-loop records run i₀ i = 18 - i
 
 pub conditions-spec : {M : Type 1} → statement M
 conditions-spec =

@@ -4,10 +4,10 @@ use Rattle.works.proofs.count.Statement.{statement}
 use Rattle.works.proofs.count.Tie as tie
 
 abbrev Inv-loop : tie.InvT-loop
-Inv-loop run from steps s₀ left₀ s left = Unit
+Inv-loop records run from steps s₀ left₀ s left = Unit
 
 abbrev μ-loop : tie.MeasureT-loop
-μ-loop run from steps s₀ left₀ s left = left
+μ-loop records run from steps s₀ left₀ s left = left
 
 pub count-spec : {M : Type 1} → statement M
 count-spec =
@@ -20,6 +20,7 @@ count-spec =
     (λ c κs. search needs)
     (λ c κs. search needs)
     (λ c. search needs)
+    (λ c κs. search needs)
     (λ c κs. search needs)
     (λ c. omega arith)
     (λ c. omega arith)

@@ -5,10 +5,10 @@ use Rattle.works.proofs.counts.Statement.{statement}
 use Rattle.works.proofs.counts.Tie as tie
 
 abbrev Inv-loop : tie.InvT-loop
-Inv-loop run i₀ i = i ≤ 5
+Inv-loop records run i₀ i = i ≤ 5
 
 abbrev μ-loop : tie.MeasureT-loop
-μ-loop run i₀ i = 5 - i
+μ-loop records run i₀ i = 5 - i
 
 pub counts-spec : {M : Type 1} → statement M
 counts-spec =

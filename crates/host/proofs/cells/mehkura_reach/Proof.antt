@@ -15,6 +15,6 @@ mehkura-reach-spec =
     (λ c κs. search needs)
     (λ c. search needs)
     (λ c. search needs)
-    (λ c. let v = c .before .before .before .before .before .before .before in done (v .reach .result) _ (c .before .before .before .before .enum-told .given .1) (c .before .before .write-cells .ensures) ∙ ran _ _ (v .before .before .before .if1 .left) (v .before .read-cells .ensures) (v .reach .ensures))
+    (λ c. let v = c .before .before .before .before .before .before .before in done (v .reach .result) _ (c .before .before .before .before .enum-told .given .1) (c .before .before .write-cells .ensures) ∙ ran _ _ (v .reach .result) (v .before .before .before .if1 .left) (v .before .read-cells .ensures) (v .reach .ensures))
     (λ c. search needs)
-    (λ c. let v = c .before .before .before in refused (v .reach .result) _ (c .enum-told2 .given .1) ∙ ran _ _ (v .before .before .before .if1 .left) (v .before .read-cells .ensures) (v .reach .ensures)))
+    (λ c. let v = c .before .before .before in refused (v .reach .result) _ (c .enum-told2 .given .1) ∙ ran _ _ (v .reach .result) (v .before .before .before .if1 .left) (v .before .read-cells .ensures) (v .reach .ensures)))

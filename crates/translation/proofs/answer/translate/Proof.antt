@@ -1,11 +1,12 @@
+use mathlib.Core.Path.{ap}
 use borrow.Author.Tests.{eq-eqb, ne-eqb}
-use Rattle.translation.specs.Strip.{translation}
+use Rattle.translation.specs.Strip.{decision, answerOf, translation}
 use borrow.Author.Needs.{needs}
 use Rattle.translation.proofs.answer.translate.Statement.{statement}
 use Rattle.translation.proofs.answer.translate.Tie as tie
 
 pub translate-spec : {M : Type 1} → statement M
-unfolding translation
+unfolding translation decision
 translate-spec =
     tie.close
     (tie.spec
@@ -17,4 +18,4 @@ translate-spec =
     (λ c κs. search needs)
     (λ c κs. search needs)
     (λ c. search needs)
-    (λ c. rw (eq-eqb _ _ (c .before .before .before .before .before .before .before .before .if1 .left), ← c .before .before .before .before .before .word-at .ensures, ← c .before .before .before .before .word-at2 .ensures) (c .before .before .admit .ensures)))
+    (λ c. rw (eq-eqb _ _ (c .before .before .before .before .before .before .before .before .if1 .left), ← c .before .before .before .before .before .word-at .ensures, ← c .before .before .before .before .word-at2 .ensures) (ap answerOf (c .before .before .admit .ensures))))

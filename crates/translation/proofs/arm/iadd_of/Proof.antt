@@ -8,5 +8,5 @@ unfolding iaddOf
 iadd-of-spec =
     tie.close
     (tie.spec
-    (λ c κs. tt) (λ c κs. tt) (λ c κs. tt) (λ c κs. tt) (λ c κs. tt) (λ c κs. tt)
-    (λ c. let c2 = c .before .before in let c4 = c2 .before .before in let c6 = c4 .before .before in let c8 = c6 .before .before in let c10 = c8 .before .before in rw (← c10 .either .ensures) (by-call (c8 .prepared .ensures) (by-call (c6 .prepared2 .ensures) (by-call (c4 .iadd-sum .ensures) (by-call (c2 .saturate-add .ensures) (by-call (c .set .ensures) by-ret)))))))
+    (λ c κs. tt) (λ c κs. tt) (λ c κs. tt) (λ c κs. tt) (λ c κs. tt) (λ c κs. tt) (λ c κs. tt)
+    (λ c. let c2 = c .before .before in let c4 = c2 .before .before in let c6 = c4 .before .before in let c8 = c6 .before .before in let c10 = c8 .before .before in let c12 = c10 .before .before in rw (← c12 .either .ensures) (by-call (c10 .prepared .ensures) (by-call (c8 .prepared2 .ensures) (by-call (c6 .sum-carry .ensures .is _ _ _ _ (c4 .add-with-flags .ensures)) (by-call (c2 .saturate-add .ensures) (by-call (c .set .ensures) by-ret)))))))

@@ -1,13 +1,13 @@
-use Rattle.translation.specs.Helpers.{addWithFlags}
-use Rattle.translation.proofs.Follow.{by-call, by-no, by-op, by-ret, by-yes}
+use Rattle.translation.specs.Emit.{given, words}
+use borrow.Author.Needs.{needs}
 use Rattle.translation.proofs.helper.add_with_flags.Statement.{statement}
 use Rattle.translation.proofs.helper.add_with_flags.Tie as tie
 
 pub add-with-flags-spec : {M : Type 1} → statement M
-unfolding addWithFlags
+unfolding given words
 add-with-flags-spec =
     tie.close
     (tie.spec
-    (λ c κs. tt) (λ c κs. tt) (λ c κs. tt) (λ c κs. tt)
-    (λ c. let c2 = c .before .before in let c4 = c2 .before .before in let c6 = c4 .before .before in by-yes (c6 .if1 .taken) (by-op (c4 .two .ensures) (by-op (c2 .two2 .ensures) (by-call (c .set-sum-cc .ensures) by-ret))))
-    (λ c. by-no (c .before .before .if1 .left) (by-op (c .two3 .ensures) by-ret)))
+    (λ c. search needs) (λ c κs. tt) (λ c. search needs) (λ c κs. tt)
+    (λ c. rw (c .before .before .enum-told .given .1) (c .add-plain .ensures))
+    (λ c. rw (c .before .before .before .carry-in .given .1) (c .add-carry .ensures)))

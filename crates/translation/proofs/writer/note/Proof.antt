@@ -1,4 +1,6 @@
-use native.Mathlib.Numerals.{towards-suc}
+use mathlib.Core.Path.{_≡_}
+use native.Mathlib.Omega.{arith}
+use lib.ListN.{length}
 use Rattle.strip.specs.declared.reader.Entry.the-variants as Of
 use Rattle.strip.specs.Entry.{kindOf, refsOf, immediateOf, encode}
 use Rattle.translation.proofs.Write.{writes}
@@ -12,8 +14,6 @@ note-spec =
     tie.close
     (tie.spec
     (λ c. search needs)
-    (λ c. search needs)
-    (λ c. search needs)
-    (λ c. search needs)
     (λ c κs. search needs)
-    (λ c. writes _ (c .before .before .args .p) (Of.Cell 110 (c .before .before .args .n)) (simp (towards-suc)) (c .skip .ensures)))
+    (λ c κs. search needs)
+    (λ c. let a = c .before .before .before .before .args in let n : length (a .buf .now) ≡ 264 = search needs in writes _ (a .p) (Of.Cell 110 (a .n)) (omega arith) (c .before .write-cell .ensures) (c .skip .ensures)))

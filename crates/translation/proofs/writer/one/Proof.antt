@@ -1,7 +1,9 @@
-use native.Mathlib.Numerals.{towards-suc}
+use mathlib.Core.Path.{_≡_}
+use native.Mathlib.Omega.{arith}
+use lib.ListN.{length}
 use Rattle.strip.specs.declared.reader.Entry.the-variants as Of
 use Rattle.strip.specs.Entry.{kindOf, refsOf, immediateOf, encode}
-use Rattle.translation.proofs.Write.{makes, low, high}
+use Rattle.translation.proofs.Write.{makes}
 use borrow.Author.Needs.{needs}
 use Rattle.translation.proofs.writer.one.Statement.{statement}
 use Rattle.translation.proofs.writer.one.Tie as tie
@@ -12,10 +14,6 @@ one-spec =
     tie.close
     (tie.spec
     (λ c. search needs)
-    (λ c. search needs)
-    (λ c. search needs)
-    (λ c. search needs)
-    (λ c. search needs)
-    (λ c. search needs)
     (λ c κs. search needs)
-    (λ c. makes _ (c .before .before .args .p) (Of.One (c .before .before .args .k) (c .before .before .args .a)) (simp (low (c .before .before .args .a) (c .before .before .fits .a .fits), high (c .before .before .args .a) (c .before .before .fits .a .fits), towards-suc)) (c .next .ensures)))
+    (λ c κs. search needs)
+    (λ c. let a = c .before .before .before .before .args in let n : length (a .buf .now) ≡ 264 = search needs in makes _ (a .p) (Of.One (a .k) (a .a)) (omega arith) (c .before .write-one .ensures) (c .next .ensures)))

@@ -1,7 +1,9 @@
-use native.Mathlib.Numerals.{towards-suc}
+use mathlib.Core.Path.{_≡_}
+use native.Mathlib.Omega.{arith}
+use lib.ListN.{length}
 use Rattle.strip.specs.declared.reader.Entry.the-variants as Of
 use Rattle.strip.specs.Entry.{kindOf, refsOf, immediateOf, encode}
-use Rattle.translation.proofs.Write.{writes, low, high}
+use Rattle.translation.proofs.Write.{writes}
 use borrow.Author.Needs.{needs}
 use Rattle.translation.proofs.writer.open.Statement.{statement}
 use Rattle.translation.proofs.writer.open.Tie as tie
@@ -12,10 +14,6 @@ open-spec =
     tie.close
     (tie.spec
     (λ c. search needs)
-    (λ c. search needs)
-    (λ c. search needs)
-    (λ c. search needs)
-    (λ c. search needs)
-    (λ c. search needs)
     (λ c κs. search needs)
-    (λ c. writes _ (c .before .before .args .p) (Of.One 100 (c .before .before .args .a)) (simp (low (c .before .before .args .a) (c .before .before .fits .a .fits), high (c .before .before .args .a) (c .before .before .fits .a .fits), towards-suc)) (c .skip .ensures)))
+    (λ c κs. search needs)
+    (λ c. let a = c .before .before .before .before .args in let n : length (a .buf .now) ≡ 264 = search needs in writes _ (a .p) (Of.One 100 (a .a)) (omega arith) (c .before .write-one .ensures) (c .skip .ensures)))

@@ -1,4 +1,6 @@
-use mathlib.Core.Path.{refl}
+use mathlib.Core.Path.{_≡_}
+use native.Mathlib.Omega.{arith}
+use lib.ListN.{length}
 use Rattle.strip.specs.declared.reader.Entry.the-variants as Of
 use Rattle.strip.specs.Entry.{kindOf, refsOf, immediateOf, encode}
 use Rattle.translation.proofs.Write.{makes}
@@ -12,6 +14,6 @@ truth-spec =
     tie.close
     (tie.spec
     (λ c. search needs)
-    (λ c. search needs)
     (λ c κs. search needs)
-    (λ c. makes _ (c .before .before .args .p) (Of.Bare (c .before .before .args .k)) (refl) (c .next .ensures)))
+    (λ c κs. search needs)
+    (λ c. let a = c .before .before .before .before .args in let n : length (a .buf .now) ≡ 264 = search needs in makes _ (a .p) (Of.Bare (a .k)) (omega arith) (c .before .write-bare .ensures) (c .next .ensures)))

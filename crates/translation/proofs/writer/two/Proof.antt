@@ -1,7 +1,9 @@
-use native.Mathlib.Numerals.{towards-suc}
+use mathlib.Core.Path.{_≡_}
+use native.Mathlib.Omega.{arith}
+use lib.ListN.{length}
 use Rattle.strip.specs.declared.reader.Entry.the-variants as Of
 use Rattle.strip.specs.Entry.{kindOf, refsOf, immediateOf, encode}
-use Rattle.translation.proofs.Write.{makes, low, high}
+use Rattle.translation.proofs.Write.{makes}
 use borrow.Author.Needs.{needs}
 use Rattle.translation.proofs.writer.two.Statement.{statement}
 use Rattle.translation.proofs.writer.two.Tie as tie
@@ -12,14 +14,6 @@ two-spec =
     tie.close
     (tie.spec
     (λ c. search needs)
-    (λ c. search needs)
-    (λ c. search needs)
-    (λ c. search needs)
-    (λ c. search needs)
-    (λ c. search needs)
-    (λ c. search needs)
-    (λ c. search needs)
-    (λ c. search needs)
-    (λ c. search needs)
     (λ c κs. search needs)
-    (λ c. makes _ (c .before .before .args .p) (Of.Two (c .before .before .args .k) (c .before .before .args .a) (c .before .before .args .b)) (simp (low (c .before .before .args .a) (c .before .before .fits .a .fits), high (c .before .before .args .a) (c .before .before .fits .a .fits), low (c .before .before .args .b) (c .before .before .fits .b .fits), high (c .before .before .args .b) (c .before .before .fits .b .fits), towards-suc)) (c .next .ensures)))
+    (λ c κs. search needs)
+    (λ c. let a = c .before .before .before .before .args in let n : length (a .buf .now) ≡ 264 = search needs in makes _ (a .p) (Of.Two (a .k) (a .a) (a .b)) (omega arith) (c .before .write-two .ensures) (c .next .ensures)))

@@ -1,7 +1,9 @@
-use native.Mathlib.Numerals.{towards-suc}
+use mathlib.Core.Path.{_≡_}
+use native.Mathlib.Omega.{arith}
+use lib.ListN.{length}
 use Rattle.strip.specs.declared.reader.Entry.the-variants as Of
 use Rattle.strip.specs.Entry.{kindOf, refsOf, immediateOf, encode}
-use Rattle.translation.proofs.Write.{makes, top}
+use Rattle.translation.proofs.Write.{makes}
 use borrow.Author.Needs.{needs}
 use Rattle.translation.proofs.writer.u.Statement.{statement}
 use Rattle.translation.proofs.writer.u.Tie as tie
@@ -12,18 +14,6 @@ u-spec =
     tie.close
     (tie.spec
     (λ c. search needs)
-    (λ c. search needs)
-    (λ c. search needs)
-    (λ c. search needs)
-    (λ c. search needs)
-    (λ c. search needs)
-    (λ c. search needs)
-    (λ c. search needs)
-    (λ c. search needs)
-    (λ c. search needs)
-    (λ c. search needs)
-    (λ c. search needs)
-    (λ c. search needs)
-    (λ c. search needs)
     (λ c κs. search needs)
-    (λ c. makes _ (c .before .before .args .p) (Of.Word (c .before .before .args .w)) (simp (top (c .before .before .args .w) (c .before .before .fits .w .fits), towards-suc)) (c .next .ensures)))
+    (λ c κs. search needs)
+    (λ c. let a = c .before .before .before .before .args in let n : length (a .buf .now) ≡ 264 = search needs in makes _ (a .p) (Of.Word (a .w)) (omega arith) (c .before .write-word .ensures) (c .next .ensures)))

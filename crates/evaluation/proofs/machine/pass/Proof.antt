@@ -1,0 +1,64 @@
+use Prim.Native.Nat.{_≤_, _-_}
+use mathlib.Core.Path.{_≡_, refl, _∙_, ap}
+use native.Mathlib.Omega.{arith}
+use lib.ListN.{length}
+use Rattle.strip.proofs.Read.{Turn, turn, halt}
+use Rattle.strip.proofs.Pass.{ready-fresh}
+use Rattle.evaluation.specs.declared.machine.Evaluated.{Evaluated}
+use Rattle.evaluation.specs.declared.machine.Ending.{Ending}
+use Rattle.evaluation.specs.Progress.{outcomeAt, ended, Sound}
+use Rattle.evaluation.proofs.Progress.{Holds, holds-begin, stops, stops-at, goes-on, stops-open, finished, rest-undefined, rest-missing, rest-done}
+use borrow.Author.Needs.{needs}
+use Rattle.evaluation.proofs.machine.pass.Statement.{statement}
+use Rattle.evaluation.proofs.machine.pass.Tie as tie
+
+abbrev Inv-loop : tie.InvT-loop
+Inv-loop run start constants m₀ tags₀ words₀ state₀ at₀ m tags words state at =
+    (at ≤ length run) × (Sound m tags words × Holds run start constants at m tags words state)
+
+abbrev μ-loop : tie.MeasureT-loop
+μ-loop run start constants m₀ tags₀ words₀ state₀ at₀ m tags words state at = length run - at
+
+-- what the entry that a turn has read says of the run
+turned : (c : tie.After-e Inv-loop μ-loop) → Turn (c .before .before .before .before .before .before .before .before .before .args .run .now) (c .before .before .before .before .before .loop .at) (c .e .given .0 .0) (c .e .given .0 .1 .0)
+turned c = turn _ _ _ (c .before .before .before .before .loop-test .taken) (c .before .before .read-entry .ensures) _ _ (c .e .given .1)
+
+-- an ending is told by its case
+with-end : {r s : Ending} {x : Evaluated} → r ≡ s → ended s ≡ x → ended r ≡ x
+with-end p q = ap ended p ∙ q
+
+pub pass-spec : {M : Type 1} → statement M
+unfolding outcomeAt
+pass-spec =
+    tie.close
+    (tie.spec
+    Inv-loop
+    μ-loop
+    (λ c κs. search needs)
+    (λ c. let n = c .new .ensures in (omega arith, rw n ((ready-fresh, (refl, refl)), holds-begin _ _ _ _ _)))
+    (λ c. search needs)
+    (λ c. search needs)
+    (λ c. search needs)
+    (λ c κs. search needs)
+    (λ c. search needs)
+    (λ c. search needs)
+    (λ c κs. search needs)
+    (λ c. with-end (c .refused .ensures) (stops _ _ _ (c .before .before .before .before .before .before .loop .at) _ _ _ _ (c .before .before .before .before .before .before .loop .inv .1 .1) (halt (c .before .before .before .before .before .before .before .before .before .before .args .run .now) (c .before .before .before .before .before .before .loop .at) _ (c .before .before .before .before .before .loop-test .taken) (c .before .before .before .read-entry .ensures) (c .before .enum-told .given .1))))
+    (λ c κs. search needs)
+    (λ c κs. c .before .before .before .before .before .before .before .before .before .loop .inv .1 .0 .1)
+    (λ c κs. search needs)
+    (λ c κs. (c .before .before .before .before .before .before .before .before .before .before .before .before .before .loop .inv .1 .0, (turned (c .before .before .before .before .before .before .before .before)) .body))
+    (λ c κs. search needs)
+    (λ c. with-end (c .refused2 .ensures) (stops-at _ _ _ _ _ _ _ _ (c .before .before .before .before .before .before .before .before .before .before .before .before .before .before .before .before .before .loop .inv .1 .1) _ _ (turned (c .before .before .before .before .before .before .before .before .before .before .before .before)) _ _ _ _ (c .before .before .before .step2 .ensures _ (c .before .before .before .before .before .before .before .before .before .before .load .ensures)) (c .before .if1 .taken)))
+    (λ c. omega (arith, (turned (c .before .before .before .before .before .before .before .before .before .before .before)) .inside, c .before .before .before .before .before .before .before .before .before .before .before .before .before .before .before .before .before .before .before .before .good .0 .0))
+    (λ c. omega (arith, (turned (c .before .before .before .before .before .before .before .before .before .before .before)) .inside, (turned (c .before .before .before .before .before .before .before .before .before .before .before)) .forward))
+    (λ c. rw (c .before .before .before .before .before .step .ensures, c .before .before .before .before .before .before .operand .ensures) ((turned (c .before .before .before .before .before .before .before .before .before .before .before)) .inside, goes-on _ _ _ _ _ _ _ _ (c .before .before .before .before .before .before .before .before .before .before .before .before .before .before .before .before .loop .inv .1 .1) _ _ (turned (c .before .before .before .before .before .before .before .before .before .before .before)) _ _ _ _ (c .before .before .step2 .ensures _ (c .before .before .before .before .before .before .before .before .before .load .ensures)) (c .before .before .before .before .before .before .before .before .before .before .before .before .before .before .before .before .loop .inv .1 .0) (c .if1 .left)))
+    (λ c κs. search needs)
+    (λ c. with-end (c .refused3 .ensures) (stops-open _ _ _ _ _ _ _ _ (c .before .before .before .before .loop .inv .1 .1) (c .before .before .before .loop-test .left) (c .before .if2 .taken)))
+    (λ c. search needs)
+    (λ c κs. search needs)
+    (λ c. with-end (c .refused4 .ensures) (finished _ _ _ _ _ _ _ _ (c .before .before .before .before .before .before .loop .inv .1 .1) (c .before .before .before .before .before .loop-test .left) (c .before .before .before .if2 .left) _ (rest-undefined (c .before .before .before .before .before .before .loop .m) _ _ _ _ _ (c .before .enum-told2 .given .1))))
+    (λ c. search needs)
+    (λ c κs. search needs)
+    (λ c. with-end (c .refused5 .ensures) (finished _ _ _ _ _ _ _ _ (c .before .before .before .before .before .before .before .loop .inv .1 .1) (c .before .before .before .before .before .before .loop-test .left) (c .before .before .before .before .if2 .left) _ (rest-missing (c .before .before .before .before .before .before .before .loop .m) _ _ _ _ _ (c .before .enum-told3 .given .1))))
+    (λ c. finished _ _ _ _ _ _ _ _ (c .before .before .before .before .before .before .before .before .loop .inv .1 .1) (c .before .before .before .before .before .before .before .loop-test .left) (c .before .before .before .before .before .if2 .left) _ (rest-done (c .before .before .before .before .before .before .before .before .loop .m) _ _ _ _ _ (c .before .before .before .before .match2 .keys2) (c .before .before .before .match3 .keys2))))

@@ -1,0 +1,17 @@
+use native.Mathlib.Omega.{arith}
+use lib.Seq.{set-out}
+use lib.ListN.{length}
+use mathlib.Core.Path.{_≡_}
+use mathlib.Core.Logic.{⊎-elim}
+use Rattle.evaluation.specs.State.{storedFlag}
+use borrow.Author.Needs.{needs}
+use Rattle.evaluation.proofs.state.State.store_flag.Statement.{statement}
+use Rattle.evaluation.proofs.state.State.store_flag.Tie as tie
+
+pub store-flag-spec : {M : Type 1} → statement M
+unfolding storedFlag
+store-flag-spec =
+    tie.close
+    (tie.spec
+    (λ c. search needs)
+    (λ c. ⊎-elim (λ w. rw (w .1)) (λ w. let h : length (c .before .before .args .self .flags) ≡ 4 = search needs in rw (w .1, set-out (c .before .before .args .self .flags) (c .before .before .args .n) (c .before .before .args .t) (omega (arith, w .0 .left)))) (c .if1 .came)))

@@ -1,0 +1,19 @@
+use mathlib.Core.Path.{refl}
+use native.Mathlib.Omega.{arith}
+use Rattle.strip.specs.declared.reader.Entry.the-variants as Of
+use Rattle.strip.specs.Entry.{encode, kindOf, immediateOf, refsOf}
+use Rattle.strip.proofs.Write.{none, put}
+use borrow.Author.Needs.{needs}
+use Rattle.strip.proofs.writer.write_bare.Statement.{statement}
+use Rattle.strip.proofs.writer.write_bare.Tie as tie
+
+pub write-bare-spec : {M : Type 1} → statement M
+unfolding encode kindOf immediateOf refsOf
+write-bare-spec =
+    tie.close
+    (tie.spec
+    (λ c κs. search needs)
+    (λ c. let a = c .before .before .before .args in none _ (a .at) (Of.Bare (a .k)) (omega arith))
+    (λ c. search needs)
+    (λ c. search needs)
+    (λ c. let a = c .before .before .before .args in put _ (a .at) (Of.Bare (a .k)) (omega arith) refl))
