@@ -1,9 +1,9 @@
 -- Demand 1 of reach: a well-formed run is never refused, and its answer is the rule's, of its strips; a run that is not is answered 7, with the asked
 -- cells. And the number tells the case, so the answer of a run is `reached`.
 use mathlib.Core.Path.{_≡_, refl, ap, _∙_, sym}
-use mathlib.Core.Bool.{Bool, true, false, cond}
-use mathlib.Core.List.{List, []}
-use mathlib.Core.Option.{Option·getD, some}
+use mathlib.Core.Bool.{true, false}
+use mathlib.Core.List.{List}
+use mathlib.Core.Option.{some}
 use Prim.Native.Nat.{ℕ, zero, suc}
 use Rattle.strip.specs.declared.reader.Entry.{Entry}
 use Rattle.strip.specs.Shape.{decode, shapeOk}
@@ -14,11 +14,11 @@ use Rattle.reach.specs.declared.cells.Reached.{Reached}
 use Rattle.reach.specs.Reach.{reachOf, reached, numberOf, Answer, answerOf, reachAnswer}
 
 pub well-formed-reached : (run : List ℕ) (ss : List (List Entry)) (c : Cells) → shapeOk run ≡ true → decode run ≡ some ss → reachAnswer run c ≡ record { number = 0; cells = reachOf ss c }
-unfolding reachAnswer
+unfolding reachAnswer reached numberOf
 well-formed-reached run ss c h d = rw (h, d)
 
 pub ill-formed-refused : (run : List ℕ) (c : Cells) → shapeOk run ≡ false → reachAnswer run c ≡ record { number = 7; cells = c }
-unfolding reachAnswer
+unfolding reachAnswer reached numberOf
 ill-formed-refused run c h = rw h
 
 -- ---- the number tells the case
@@ -39,17 +39,7 @@ reached-back : (r : Reached) → back (answerOf r) ≡ r
 unfolding back
 reached-back r = ap {B = Reached} (λ (o : Outcome). record { cells = r .cells; outcome = o }) (outcome-back (r .outcome))
 
-pub answer-of : (run : List ℕ) (c : Cells) → answerOf (reached run c) ≡ reachAnswer run c
-unfolding reached reachAnswer numberOf
-answer-of run c = go (shapeOk run)
-  where
-    ss : List (List Entry)
-    ss = Option·getD (decode run) []
-
-    go : (b : Bool) → answerOf (cond b (record { cells = reachOf ss c; outcome = Done }) (record { cells = c; outcome = BadShape })) ≡ record { number = cond b 0 7; cells = cond b (reachOf ss c) c }
-    go true = refl
-    go false = refl
-
 -- as the callers of `reach` ask it
 pub reached-is : (r : Reached) (run : List ℕ) (c : Cells) → answerOf r ≡ reachAnswer run c → r ≡ reached run c
-reached-is r run c h = sym (reached-back r) ∙ ap back (h ∙ sym (answer-of run c)) ∙ reached-back (reached run c)
+unfolding reachAnswer
+reached-is r run c h = sym (reached-back r) ∙ ap back h ∙ reached-back (reached run c)

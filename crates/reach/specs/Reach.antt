@@ -8,7 +8,7 @@ use lib.Dec.{eqb}
 use lib.ListN.{getD}
 use Rattle.strip.specs.declared.reader.Entry.{Entry}
 use Rattle.strip.specs.declared.reader.Entry.the-variants as Of
-use Rattle.strip.specs.Shape.{isOpen, decode, shapeOk, shapeNumber}
+use Rattle.strip.specs.Shape.{isOpen, decode, shapeOk}
 use Rattle.evaluation.specs.Cells.{storeKind, stores, loads}
 use Rattle.reach.specs.declared.cells.Cells.{Cells}
 use Rattle.reach.specs.declared.cells.Outcome.{Outcome}
@@ -80,6 +80,5 @@ pub record Answer : Type 0 where
 abbrev pub answerOf : Reached → Answer
 answerOf r = record { number = numberOf (r .outcome); cells = r .cells }
 
--- the number is the shape test's
 unfoldable pub reachAnswer : List ℕ → Cells → Answer
-reachAnswer run c = record { number = shapeNumber run; cells = cond (shapeOk run) (reachOf (Option·getD (decode run) []) c) c }
+reachAnswer run c = answerOf (reached run c)

@@ -7,11 +7,13 @@ use Prim.Native.Nat.{ℕ, _+_, _*_, _%_}
 use lib.ListN.{length}
 use lib.Seq.{sets}
 use Rattle.strip.specs.declared.reader.Entry.{Entry}
+use Rattle.strip.specs.declared.reader.Entry.the-variants as Of
 use Rattle.strip.specs.Entry.{encode}
 use Rattle.translation.specs.declared.writer.Pos.{Pos}
 use Rattle.translation.specs.declared.writer.Made.{Made}
 use Rattle.translation.specs.declared.helper.Carry.{Carry}
 use Rattle.translation.specs.declared.helper.Carry.the-variants.{None, Word}
+use Rattle.translation.specs.declared.helper.Sum.{Sum}
 use Rattle.translation.specs.Insn.{Insn}
 use Rattle.translation.specs.Helpers.{srcBc, addWithFlags, carrySum}
 use Rattle.translation.specs.Code.{Code, ret, op, act, call, mark, ite, renamed, at as level, ats}
@@ -93,6 +95,22 @@ words (Word n) = n ∷ []
 unfoldable pub orElse : Carry → ℕ → ℕ
 orElse None f = f
 orElse (Word n) f = n
+
+-- a sum and its carry out
+pub record Summed : Type 0 where
+  pub buffer : Buffer
+  pub number : ℕ
+  pub carry : ℕ
+
+abbrev pub summed : List ℕ → Sum → Summed
+summed l s = record { buffer = view l (s .pos); number = s .value; carry = s .carry }
+
+-- after the carry in was added to sum v, whose carry out is c
+unfoldable pub carryAdded : Carry → (v c : ℕ) → Buffer → Summed
+carryAdded None v c b = record { buffer = b; number = v; carry = c }
+carryAdded (Word n) v c b =
+    let v2 = made (Of.Two 40 v n) b in let c2 = made (Of.Two 62 (v2 .number) v) (v2 .buffer) in let o = made (Of.Two 82 c (c2 .number)) (c2 .buffer) in
+    record { buffer = o .buffer; number = v2 .number; carry = o .number }
 
 -- from b to b′ the carry in of a sum is fetched: `add_with_flags` with it, of a and d, is what `carrySum` has follow
 pub record Carries (b b′ : Buffer) (x one : Bool) (c : Carry) : Type 0 where

@@ -11,7 +11,6 @@ use crate::helper::bool_op;
 use crate::helper::cbuf_imm;
 use crate::helper::cc_test;
 use crate::helper::extract;
-use crate::helper::flag_carry;
 use crate::helper::half_select;
 use crate::helper::half16;
 use crate::helper::ineg;
@@ -288,7 +287,7 @@ pub fn iadd3_of(buf: &mut [u8; 264], at: Pos, i: Insn, a: u8, b: u8, c: u8) -> M
     let sixteen = u(buf, ab.pos, 16);
     let ab2 = iadd3_shift(buf, sixteen.pos, iadd3_count(i), ab.value, sixteen.value);
     let cc = bit(i, 47);
-    let cin = flag_carry(buf, ab2.pos, bit(i, 48));
+    let cin = sum_carry(buf, ab2.pos, bit(i, 48), false);
     let carry = cin.carry;
     let v = add_with_flags(buf, cin.pos, ab2.value, c.value, carry, cc);
     set_d(buf, v.pos, i, v.value)

@@ -5,7 +5,7 @@ ghost use mathlib.Core.List.{[], _∷_, _++_};
 ghost use Prim.Native.Nat.{_<_, _≤_};
 ghost use Rattle.translation.specs.Helpers.{addWithFlags, b2u, boolOp, carryFlag, cbufAt, cbufImm, ccCase, ccFlags, ccTest, clampHigh, extract, field, greaterThan, greaterThanEqual, half16, halfSelect, ineg, inot, intCmp, intSource, lessThan, lessThanEqual, logicalNotIf, lop3, lop3Row, lop3Rows, p, predicate, r, saturateAdd, saturateBy, saturateInt, set, setCc, setCcIf, setSumCc, setp, shift, shiftEnd, shiftFill, shifted, signedOverflow, srcB, videoOperand};
 ghost use Rattle.translation.specs.Insn.{cslot, cword};
-ghost use Rattle.translation.specs.Emit.{view, seen, Does, Fetches, given, words, orElse, Carries};
+ghost use Rattle.translation.specs.Emit.{view, seen, Does, Fetches, given, words, orElse, summed, carryAdded, Carries};
 use crate::insn::Insn;
 use crate::insn::cslot;
 use crate::insn::cword;
@@ -218,6 +218,16 @@ pub struct Carried {
     pub carry: Carry,
 }
 
+// Whether a word is given.
+fn is_given(c: Carry) -> bool
+    ensures { λ r. ⌜ r ≡ given c ⌝ }
+{
+    match c {
+        Carry::None => false,
+        Carry::Word(_) => true,
+    }
+}
+
 // Its number, or another where none is given.
 fn or_else(c: Carry, f: u8) -> u8
     ensures { λ r. ⌜ r ≡ orElse c f ⌝ }
@@ -265,38 +275,59 @@ pub fn set_sum_cc(buf: &mut [u8; 264], at: Pos, cc: bool, a: u8, b: u8, v: u8, c
     }
 }
 
-// `add_with_flags` where no carry is given
-fn add_plain(buf: &mut [u8; 264], at: Pos, cc: bool, a: u8, b: u8) -> Made
-    ensures { λ m. ⌜ Does (view (now (buf .entry)) at) (seen (now (buf .exit)) m) (addWithFlags false cc) (a ∷ b ∷ []) ⌝ }
+// A sum and its carry out.
+struct Sum {
+    pos: Pos,
+    value: u8,
+    carry: u8,
+}
+
+// The carry in, where one is given, is added to a sum.
+fn add_carry(buf: &mut [u8; 264], at: Pos, v: u8, carry: u8, carry_in: Carry) -> Sum
+    ensures { λ s. ⌜ summed (now (buf .exit)) s ≡ carryAdded «carry_in» v carry (view (now (buf .entry)) at) ⌝ }
 {
-    if cc {
-        let v = two(buf, at, 40, a, b);
-        let c = two(buf, v.pos, 62, v.value, a);
-        set_sum_cc(buf, c.pos, cc, a, b, v.value, c.value)
-    } else {
-        two(buf, at, 40, a, b)
+    match carry_in {
+        Carry::None => Sum {
+            pos: at,
+            value: v,
+            carry: carry,
+        },
+        Carry::Word(cin) => {
+            let v2 = two(buf, at, 40, v, cin);
+            let c2 = two(buf, v2.pos, 62, v2.value, v);
+            let c = two(buf, c2.pos, 82, carry, c2.value);
+            let pos = c.pos;
+            Sum {
+                pos: pos,
+                value: v2.value,
+                carry: c.value,
+            }
+        }
     }
 }
 
-// and where one is
-fn add_carry(buf: &mut [u8; 264], at: Pos, cc: bool, a: u8, b: u8, cin: u8) -> Made
-    ensures { λ m. ⌜ Does (view (now (buf .entry)) at) (seen (now (buf .exit)) m) (addWithFlags true cc) (a ∷ b ∷ cin ∷ []) ⌝ }
-{
-    let v = two(buf, at, 40, a, b);
-    let c = two(buf, v.pos, 62, v.value, a);
-    let v2 = two(buf, c.pos, 40, v.value, cin);
-    let c2 = two(buf, v2.pos, 62, v2.value, v.value);
-    let carry = two(buf, c2.pos, 82, c.value, c2.value);
-    set_sum_cc(buf, carry.pos, cc, a, b, v2.value, carry.value)
-}
-
-// The cases stand apart, so that this is small and is compiled into each arm, which goes straight to its case.
+// The sum alone where there is no carry in and no flag is asked for.
 pub fn add_with_flags(buf: &mut [u8; 264], at: Pos, a: u8, b: u8, carry_in: Carry, cc: bool) -> Made
     ensures { λ m. ⌜ Does (view (now (buf .entry)) at) (seen (now (buf .exit)) m) (addWithFlags (given «carry_in») cc) (a ∷ b ∷ words «carry_in») ⌝ }
 {
-    match carry_in {
-        Carry::None => add_plain(buf, at, cc, a, b),
-        Carry::Word(cin) => add_carry(buf, at, cc, a, b, cin),
+    let v = two(buf, at, 40, a, b);
+    if either(is_given(carry_in), cc) {
+        let c = two(buf, v.pos, 62, v.value, a);
+        let s = add_carry(buf, c.pos, v.value, c.value, carry_in);
+        set_sum_cc(buf, s.pos, cc, a, b, s.value, s.carry)
+    } else {
+        v
+    }
+}
+
+// An entry's value as the carry.
+fn carry_of(m: Made) -> Carried
+    ensures { λ r. ⌜ r ≡ record { pos = m .pos; carry = Carry.Word (m .value) } ⌝ }
+{
+    let pos = m.pos;
+    Carried {
+        pos: pos,
+        carry: Carry::Word(m.value),
     }
 }
 
@@ -305,38 +336,10 @@ pub fn sum_carry(buf: &mut [u8; 264], at: Pos, x: bool, one: bool) -> Carried
     ensures { λ m. ⌜ Carries (view (now (buf .entry)) at) (view (now (buf .exit)) (m .pos)) x one (m .carry) ⌝ }
 {
     if x {
-        let c = carry_flag(buf, at);
-        let pos = c.pos;
-        return Carried {
-            pos: pos,
-            carry: Carry::Word(c.value),
-        };
+        return carry_of(carry_flag(buf, at));
     }
     if one {
-        let c = u(buf, at, 1);
-        let pos = c.pos;
-        return Carried {
-            pos: pos,
-            carry: Carry::Word(c.value),
-        };
-    }
-    Carried {
-        pos: at,
-        carry: Carry::None,
-    }
-}
-
-// the same without the one
-pub fn flag_carry(buf: &mut [u8; 264], at: Pos, x: bool) -> Carried
-    ensures { λ m. ⌜ Carries (view (now (buf .entry)) at) (view (now (buf .exit)) (m .pos)) x false (m .carry) ⌝ }
-{
-    if x {
-        let c = carry_flag(buf, at);
-        let pos = c.pos;
-        return Carried {
-            pos: pos,
-            carry: Carry::Word(c.value),
-        };
+        return carry_of(u(buf, at, 1));
     }
     Carried {
         pos: at,

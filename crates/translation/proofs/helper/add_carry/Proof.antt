@@ -1,12 +1,14 @@
-use Rattle.translation.specs.Helpers.{addWithFlags}
-use Rattle.translation.proofs.Follow.{by-call, by-op, by-ret}
+use mathlib.Core.Path.{refl}
+use Rattle.translation.specs.Emit.{carryAdded}
+use borrow.Author.Needs.{needs}
 use Rattle.translation.proofs.helper.add_carry.Statement.{statement}
 use Rattle.translation.proofs.helper.add_carry.Tie as tie
 
 pub add-carry-spec : {M : Type 1} → statement M
-unfolding addWithFlags
+unfolding carryAdded
 add-carry-spec =
     tie.close
     (tie.spec
-    (λ c κs. tt) (λ c κs. tt) (λ c κs. tt) (λ c κs. tt) (λ c κs. tt) (λ c κs. tt)
-    (λ c. let c2 = c .before .before in let c4 = c2 .before .before in let c6 = c4 .before .before in let c8 = c6 .before .before in let c10 = c8 .before .before in by-op (c10 .two .ensures) (by-op (c8 .two2 .ensures) (by-op (c6 .two3 .ensures) (by-op (c4 .two4 .ensures) (by-op (c2 .two5 .ensures) (by-call (c .set-sum-cc .ensures) by-ret)))))))
+    (λ c. search needs) (λ c. search needs) (λ c κs. tt) (λ c κs. tt) (λ c κs. tt)
+    (λ c. rw (c .enum-told .given .1) refl)
+    (λ c. let c1 = c .before in let c3 = c1 .before .before in let c5 = c3 .before .before in let c8 = c5 .before .before .before in rw (c8 .carry-in .given .1, ← c5 .two .ensures .is, ← c3 .two2 .ensures .is, ← c1 .two3 .ensures .is) refl))

@@ -9,8 +9,8 @@ unfolding carrySum carryFlagSum carryOneSum given words
 sum-carry-spec =
     tie.close
     (tie.spec
-    (λ c κs. tt)
-    (λ c. record { is = λ cc a d n q. by-yes (c .before .before .before .if1 .taken) (by-call (c .before .carry-flag .ensures) (by-call q by-ret)) })
-    (λ c κs. tt)
-    (λ c. record { is = λ cc a d n q. by-no (c .before .before .before .before .if1 .left) (by-yes (c .before .before .before .if2 .taken) (by-op (c .before .u .ensures) (by-call q by-ret))) })
+    (λ c κs. tt) (λ c κs. tt)
+    (λ c. rw (c .carry-of .ensures) (record { is = λ cc a d n q. by-yes (c .before .before .before .if1 .taken) (by-call (c .before .carry-flag .ensures) (by-call q by-ret)) }))
+    (λ c κs. tt) (λ c κs. tt)
+    (λ c. rw (c .carry-of2 .ensures) (record { is = λ cc a d n q. by-no (c .before .before .before .before .if1 .left) (by-yes (c .before .before .before .if2 .taken) (by-op (c .before .u .ensures) (by-call q by-ret))) }))
     (λ c. record { is = λ cc a d n q. by-no (c .before .if1 .left) (by-no (c .if2 .left) q) }))
