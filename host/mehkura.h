@@ -1,8 +1,8 @@
 /* Mehkura for C and C++: translation of a record, reach and evaluation of a run.
  *
- * mehkura_translate and mehkura_reach are in libhost.a, mehkura_evaluate is in libevaluation_host.a; `rt staticlib NAME` proves and writes
- * target/staticlib/libNAME.a. Lists go as a pointer and a length. No pointer may be null, for a list of length 0 either, and lists that one call
- * gets must not overlap. No function keeps a pointer, allocates or touches anything else; all may be called from several threads at once.
+ * host/build proves the library and makes target/mehkura with lib/libmehkura.a, which has every function below, and this header. Lists go as a pointer
+ * and a length. No pointer may be null, for a list of length 0 either, and lists that one call gets must not overlap. No function keeps a pointer,
+ * allocates or touches anything else; all may be called from several threads at once.
  *
  * Each answers a number of enum mehkura_answer. A refused call leaves everything that it was lent as it was, byte for byte.
  */
@@ -17,10 +17,10 @@ enum mehkura_answer {
     MEHKURA_BAD_LENGTH = 1,      /* the record is not 18 bytes, or the marks are not 128 */
     MEHKURA_UNKNOWN_KIND = 2,    /* not one of the thirty */
     MEHKURA_UNKNOWN_FORM = 3,    /* above 2 */
-    MEHKURA_LANE_MOV = 4,        /* mov with a lane mask */
+    MEHKURA_SYSTEM_VALUE_MOV = 4, /* mov of a system value: opcode value 0xf0c8000000000000 */
     MEHKURA_HALF_AT_BYTE_3 = 5,  /* i2i of a half from byte 3 on */
     MEHKURA_NO_ROOM = 6,         /* the strip is longer than the room */
-    MEHKURA_BAD_SHAPE = 7,       /* the run is not in order, or a list of cells or of a state has another length */
+    MEHKURA_BAD_SHAPE = 7,       /* the run is not well-formed, or a list of cells or of a state has another length */
     MEHKURA_UNDEFINED_VALUE = 8, /* an undefined value reaches a store, an open or an address */
     MEHKURA_NO_CONSTANT = 9      /* no constant is lent at an address */
 };
@@ -40,8 +40,8 @@ enum { MEHKURA_CELL_PREDICATE = 255, MEHKURA_CELL_FLAG = 262, MEHKURA_CELL_SLOT 
 extern "C" {
 #endif
 
-/* Translates a record: its strip goes to the start of out, the strip's length to *written, and the use marks are raised. What lies in out behind
- * the strip stays as it is. Strips one behind another are a run. Answers 0, or 1 to 6. */
+/* Translates a record: its strip goes to the start of out, the strip's length to *written, and the use marks are raised. What lies in out after
+ * the strip stays as it is. Strips one after another are a run. Answers 0, or 1 to 6. */
 uint32_t mehkura_translate(const uint8_t *record, size_t record_len, uint8_t *marks, size_t marks_len, uint8_t *out, size_t out_len, size_t *written);
 
 /* Which cells at the start of a run can matter to the listed ones at its end, in place: a byte for each cell, listed where it is not 0, answered as

@@ -41,7 +41,7 @@ constexpr uint64_t rd(uint64_t n) { return n; }
 constexpr uint64_t ra(uint64_t n) { return n << 8; }
 constexpr uint64_t rb(uint64_t n) { return n << 20; }
 
-// Strips of accepted records, one behind another, in a room of a fixed size.
+// Strips of accepted records, one after another, in a room of a fixed size.
 struct Room {
     Bytes bytes;
     size_t used = 0;
@@ -73,13 +73,13 @@ Bytes file(const std::string &name) {
     return Bytes(std::istreambuf_iterator<char>(in), {});
 }
 
-// A work's records, each behind the last strip.
+// A work's records, each after the last strip.
 void add_work(Room &room, const std::string &name) {
     const Bytes bytes = file(name);
     check(!bytes.empty() && bytes.size() % MEHKURA_RECORD == 0, name + " has whole records");
     for (auto at = bytes.begin(); at != bytes.end(); at += MEHKURA_RECORD)
         check(room.add(Bytes(at, at + MEHKURA_RECORD)) == MEHKURA_ACCEPTED, name + " is translated");
-    for (size_t i = room.used; i < room.bytes.size(); ++i) check(room.bytes[i] == unused, "the room behind the strips is as it was");
+    for (size_t i = room.used; i < room.bytes.size(); ++i) check(room.bytes[i] == unused, "the room after the strips is as it was");
 }
 
 Room work(const std::string &name) {
@@ -185,7 +185,7 @@ void one_room(const std::string &samples) {
     std::puts("one room: all samples as one run, 200 pairs of starts");
 }
 
-// Every refusal of the translation, with everything as it was behind it.
+// Every refusal of the translation, with everything as it was after it.
 void translations() {
     const Bytes good = record(2, 2, 0, 0x0001234567870005);
     auto refuses = [](const Bytes &r, size_t marks_len, size_t room_len, uint32_t number, const std::string &what) {
@@ -206,7 +206,7 @@ void translations() {
     for (size_t n : {0, 127, 129}) refuses(good, n, 256, 1, "1 for marks of " + std::to_string(n) + " bytes");
     for (uint8_t kind : {0, 31, 255}) refuses(record(kind, 9, 0, 0), 128, 256, 2, "2 for kind " + std::to_string(kind));
     refuses(record(1, 3, 0xf0c8000000000000, 0), 128, 256, 3, "3 for form 3, before 4");
-    refuses(record(1, 0, 0xf0c8000000000000, 0), 128, 0, 4, "4 for the lane mov, before 6");
+    refuses(record(1, 0, 0xf0c8000000000000, 0), 128, 0, 4, "4 for mov of a system value, before 6");
     refuses(record(24, 0, 0, 1ull << 10 | 3ull << 41), 128, 256, 5, "5 for a half from byte 3 on");
 
     Room exact(10);
@@ -223,7 +223,7 @@ void translations() {
     std::puts("translations: refusals 1 to 6, a room exactly full");
 }
 
-// Every refusal of the evaluation, with the state as it was behind it.
+// Every refusal of the evaluation, with the state as it was after it.
 void evaluations() {
     auto refuses = [](const Bytes &run, size_t registers, size_t truths, const std::vector<uint32_t> &constants, uint32_t number, const std::string &what) {
         std::vector<uint32_t> r(registers, 0x5a5a5a5a);
@@ -234,7 +234,7 @@ void evaluations() {
         check(r == r_before && t == t_before, what + ": the state as it was");
     };
     const Bytes end{0xff};
-    refuses({0}, 255, 11, {0}, 7, "7 for a run that is not in order");
+    refuses({0}, 255, 11, {0}, 7, "7 for a run that is not well-formed");
     refuses(end, 254, 11, {0}, 7, "7 for 254 registers");
     refuses(end, 255, 12, {0}, 7, "7 for 12 truths");
     // a store, then a word shifted by 32 that reaches a store

@@ -180,7 +180,7 @@ impl Pieces {
     }
 }
 
-/// The arms of the thirty kinds. The lane form of mov is the one arm with a condition; 01 refuses it with number 4.
+/// The arms of the thirty kinds. The mov of a system value is the one arm with a condition; 01 refuses it with number 4.
 fn take_arms(pieces: &mut Pieces, source: &Source, arms: &[Span]) {
     let mut taken: Vec<String> = Vec::new();
     for &arm in arms {

@@ -342,7 +342,7 @@ const UNDEFINED: &str =
     "01 00000000 | 01 20000000 | 2b 0000 0100 | 02 | 3c 0200 0200 | 0a 00 | 0b 0500 0000 0000 0000 |";
 
 impl List {
-    /// Entries behind those of [`UNDEFINED`].
+    /// Entries after those of [`UNDEFINED`].
     fn undefined(&mut self, name: impl Into<String>, entries: &str) {
         self.lend(1, name, &format!("{UNDEFINED} {entries} | ff"));
     }
@@ -504,8 +504,8 @@ fn blocks(list: &mut List) {
     for (title, truth) in [("taken", "02"), ("skipped", "03")] {
         list.add(format!("block {title}"), &format!("{truth} | 01 07000000 | 64 0000 | 07 05 0100 | 65 | ff"));
         list.add(format!("empty block {title}"), &format!("{truth} | 64 0000 | 65 | ff"));
-        let behind = format!("{truth} | 01 07000000 | 64 0000 | 07 06 0100 | 65 | ff {COUNT}");
-        list.add(format!("block {title}, a strip behind it"), &behind);
+        let after = format!("{truth} | 01 07000000 | 64 0000 | 07 06 0100 | 65 | ff {COUNT}");
+        list.add(format!("block {title}, a strip after it"), &after);
         let before = format!("{truth} | 01 07000000 | 07 05 0100 | 64 0000 | 07 06 0100 | 65 | ff");
         list.add(format!("block {title}, a store before it"), &before);
         let both = format!("{truth} | 01 07000000 | 64 0000 | 07 05 0100 | 65 | ff").repeat(2);
@@ -526,7 +526,7 @@ fn blocks(list: &mut List) {
             list.add(format!("block {title} with {name}"), &format!("{head} {block} | 65 | ff"));
             if truth == "03" {
                 list.add(
-                    format!("block skipped with {name}, a strip behind it"),
+                    format!("block skipped with {name}, a strip after it"),
                     &format!("{head} {block} | 65 | ff {COUNT}"),
                 );
             }
@@ -633,7 +633,7 @@ fn order(list: &mut List) {
     // The shape of the whole run comes first.
     for (name, bad) in [
         ("an unknown kind", "00"),
-        ("an unknown kind behind an end", "ff 00"),
+        ("an unknown kind after an end", "ff 00"),
         ("register 255", "04 ff | ff"),
         ("an open without close", "02 | 64 0000 | ff"),
         ("a cut body", "01 00"),
@@ -660,7 +660,7 @@ fn order(list: &mut List) {
 /// to be lent.
 const VALUES: &str = "01 00000000 | 02 | 0a 00 | 0b 0200 0000 0000 0000 |";
 
-/// The sorts of values, and an entry behind [`VALUES`] that makes one.
+/// The sorts of values, and an entry after [`VALUES`] that makes one.
 const SORTS: [(Value, &str, &str); 4] = [
     (Value::Word, "a word", "01 00000000"),
     (Value::Truth, "a truth", "02"),
@@ -678,7 +678,7 @@ fn right_numbers(kind: u8) -> Vec<u16> {
     layout(kind).expect("a known kind").operands.iter().copied().map(number_of).collect()
 }
 
-/// An entry behind [`VALUES`] with the references given, its byte 1 or its word 0.
+/// An entry after [`VALUES`] with the references given, its byte 1 or its word 0.
 fn entry(kind: u8, numbers: impl IntoIterator<Item = u16>) -> String {
     let immediate = match layout(kind).expect("a known kind").immediate {
         Immediate::None => "",
@@ -688,7 +688,7 @@ fn entry(kind: u8, numbers: impl IntoIterator<Item = u16>) -> String {
     format!("{kind:02x} {immediate} {}", refs(numbers)).trim_end().to_owned()
 }
 
-/// What ends a strip behind an entry.
+/// What ends a strip after an entry.
 fn rest(kind: u8) -> &'static str {
     match kind {
         100 => "65 | ff",
@@ -739,10 +739,10 @@ fn shape_references(list: &mut List) {
     for kind in [7, 8, 9, 11, 12, 20, 40, 60, 80, 81, 90, 91, 93, 100] {
         let layout = layout(kind).expect("a known kind");
         for (place, right) in layout.operands.iter().enumerate() {
-            let mut add = |number: u16, title: &str, behind: &str| {
+            let mut add = |number: u16, title: &str, after: &str| {
                 let mut numbers = right_numbers(kind);
                 numbers[place] = number;
-                let strip = format!("{VALUES} {} | {behind} {}", entry(kind, numbers), rest(kind));
+                let strip = format!("{VALUES} {} | {after} {}", entry(kind, numbers), rest(kind));
                 list.lend(1, format!("refused 7: operand {} of {} is {title}", place + 1, name(kind)), &strip);
             };
             for (sort, title, _) in SORTS.iter().filter(|(sort, ..)| sort != right) {

@@ -48,7 +48,7 @@ impl Refusal {
     }
 }
 
-/// The state behind the run, or the refusal. The shape of the whole run is tested first.
+/// The state after the run, or the refusal. The shape of the whole run is tested first.
 pub fn evaluate(run: &[u8], state: &State, constants: &[u32]) -> Result<State, Refusal> {
     if !shape_ok(run) {
         return Err(Refusal::Shape);
@@ -145,7 +145,7 @@ fn take<const N: usize>(rest: &mut &[u8]) -> Result<[u8; N], Refusal> {
     body(rest).ok_or(Refusal::Shape)
 }
 
-/// Runs the first strip and gives what lies behind it.
+/// Runs the first strip and gives what lies after it.
 fn evaluate_strip<'a>(
     strip: &'a [u8],
     state: &mut State,
@@ -293,7 +293,7 @@ const BODY_LEN: [u8; 256] = {
     lens
 };
 
-/// What lies behind the strip whose block is skipped. The close stands directly before the end, so nothing of the strip
+/// What lies after the strip whose block is skipped. The close stands directly before the end, so nothing of the strip
 /// is left to run.
 fn skip_to_end(mut rest: &[u8]) -> Result<&[u8], Refusal> {
     loop {

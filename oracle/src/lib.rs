@@ -47,7 +47,7 @@ pub fn translate(record: &[u8], marks: &mut Marks) -> Result<Vec<u8>, u8> {
 }
 
 /// Writes a record's strip at the start of `room` and gives its length, or gives the refusal number 1 to 6. A refusal
-/// leaves room and marks as they are; otherwise the room behind the strip stays as it is.
+/// leaves room and marks as they are; otherwise the room after the strip stays as it is.
 pub fn translate_into(record: &[u8], marks: &mut Marks, room: &mut [u8]) -> Result<usize, u8> {
     let mut raised = *marks;
     let strip = translate(record, &mut raised)?;

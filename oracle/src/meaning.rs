@@ -51,7 +51,7 @@ pub struct State {
     pub flags: [bool; 4],
 }
 
-/// The state behind an instruction. The record must be one that is not refused. A constant word that is not lent counts
+/// The state after an instruction. The record must be one that is not refused. A constant word that is not lent counts
 /// as 0; [`lacks_word`] says where that matters.
 pub fn meaning(record: &Record, state: &State, constants: &[u32]) -> State {
     let mut step = Step { record, before: state, constants, after: state.clone() };
@@ -81,7 +81,7 @@ pub fn element_named(record: &Record) -> usize {
     (field_of(record, 34, 5) * SLOT_WORDS + field_of(record, 20, 14)) as usize
 }
 
-/// Whether the instruction runs and reads a constant word that the list does not hold: then there is no state behind it.
+/// Whether the instruction runs and reads a constant word that the list does not hold: then there is no state after it.
 pub fn lacks_word(record: &Record, state: &State, constants: &[u32]) -> bool {
     guard_holds(record, state) && element_read(record).is_some_and(|element| element >= constants.len())
 }

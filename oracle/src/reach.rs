@@ -7,7 +7,7 @@ use crate::SLOTS;
 use crate::format::{Immediate, kind, layout};
 use crate::shape::{Watch, shape_ok, shape_ok_watched};
 
-/// Where the predicates begin, behind 255 registers.
+/// Where the predicates begin, after 255 registers.
 pub const PREDICATES: usize = 255;
 /// Where the flags begin: Z, S, C, O.
 pub const FLAGS: usize = PREDICATES + 7;
@@ -111,7 +111,7 @@ pub fn reach(run: &[u8], cells: &mut [u8]) -> Result<(), u8> {
                 cells[usize::from(cell)] = 0;
             }
         }
-        // Behind the stores: a strip may load what it stores.
+        // After the stores: a strip may load what it stores.
         for &cell in &loads[before.loads_end..strip.loads_end] {
             cells[usize::from(cell)] = 1;
         }

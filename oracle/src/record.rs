@@ -16,8 +16,8 @@ pub const NAMES: [&str; 30] = [
 pub const MOV: u8 = 1;
 pub const I2I: u8 = 24;
 
-/// The opcode value of the lane form of mov.
-pub const MOV_LANE: u64 = 0xf0c8 << 48;
+/// The opcode value of the mov of a system value.
+pub const MOV_SYSTEM_VALUE: u64 = 0xf0c8 << 48;
 
 /// A record taken apart, before any refusal is decided.
 #[derive(Clone, Copy, Debug, PartialEq, Eq, Hash, PartialOrd, Ord)]
@@ -55,7 +55,7 @@ impl Record {
             2 => Form::Imm,
             _ => return Err(3),
         };
-        if self.kind == MOV && self.value == MOV_LANE {
+        if self.kind == MOV && self.value == MOV_SYSTEM_VALUE {
             return Err(4);
         }
         let source_size = self.word >> 10 & 3;

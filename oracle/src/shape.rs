@@ -32,7 +32,7 @@ pub(crate) fn shape_ok_watched(run: &[u8], watch: &mut impl Watch) -> bool {
     let mut rest = run;
     while !rest.is_empty() {
         match skip_strip(rest, watch) {
-            Some(behind) => rest = behind,
+            Some(after) => rest = after,
             None => return false,
         }
     }
@@ -79,8 +79,8 @@ fn is(mask: u64, low: u8, high: u8) -> bool {
 /// Splits off a body of `N` bytes.
 #[inline(always)]
 pub(crate) fn body<const N: usize>(rest: &mut &[u8]) -> Option<[u8; N]> {
-    let (body, behind) = rest.split_first_chunk::<N>()?;
-    *rest = behind;
+    let (body, after) = rest.split_first_chunk::<N>()?;
+    *rest = after;
     Some(*body)
 }
 
@@ -90,7 +90,7 @@ fn need(condition: bool) -> Option<()> {
     condition.then_some(())
 }
 
-/// What lies behind the first strip, or `None` if its shape is wrong.
+/// What lies after the first strip, or `None` if its shape is wrong.
 fn skip_strip<'a>(strip: &'a [u8], watch: &mut impl Watch) -> Option<&'a [u8]> {
     let mut rest = strip;
     let mut v = Values::default();
@@ -198,7 +198,7 @@ fn skip_strip<'a>(strip: &'a [u8], watch: &mut impl Watch) -> Option<&'a [u8]> {
                 open = true;
                 watch.open();
             }
-            // The close must stand directly before the end. So nothing opens again behind it.
+            // The close must stand directly before the end. So nothing opens again after it.
             101 => {
                 need(open && rest.first() == Some(&255))?;
                 open = false;

@@ -94,7 +94,7 @@ impl Plan {
             1 => 1 + rng.below(8),
             _ => 1 + rng.below(MAX_ENTRIES),
         };
-        // An open needs a truth before it and a close behind it.
+        // An open needs a truth before it and a close after it.
         let opens = total >= 4 && rng.one_in(2);
         let last_inner = if opens { total - 2 } else { total - 1 };
         let open_at = if opens { 1 + rng.below(last_inner - 1) } else { usize::MAX };

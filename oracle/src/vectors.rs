@@ -17,7 +17,7 @@ use std::collections::HashSet;
 
 use crate::format::encode;
 use crate::generate::{TELLING_VALUES, random_admitted, with_field};
-use crate::record::{I2I, MOV, MOV_LANE, NAMES, Record};
+use crate::record::{I2I, MOV, MOV_SYSTEM_VALUE, NAMES, Record};
 use crate::rng::Rng;
 use crate::{SLOTS, translate_entries};
 
@@ -384,24 +384,24 @@ fn refusals(list: &mut List) {
     // Kinds and forms that do not exist, and the order of causes.
     for kind in [0, 31, 32, 33, 34, 100, 127, 128, 254, 255] {
         list.add(kind, REG, 0, PLAIN);
-        list.add(kind, 3, MOV_LANE, PLAIN);
+        list.add(kind, 3, MOV_SYSTEM_VALUE, PLAIN);
     }
     for form in [3, 4, 127, 128, 254, 255] {
         list.add(MOV, form, 0, PLAIN);
-        list.add(MOV, form, MOV_LANE, PLAIN);
+        list.add(MOV, form, MOV_SYSTEM_VALUE, PLAIN);
         list.add(LEA, form, 0, guard(PLAIN, 15));
         list.add(I2I, form, 0, PLAIN & !0xff00 | 1 << 10 | 3 << 41);
     }
-    // The lane form of mov under each form and guard, with and without a destination; its neighbours are admitted.
+    // Mov of a system value under each form and guard, with and without a destination; its neighbours are admitted.
     for form in [REG, CBUF, IMM] {
         for g in [7, 15, 0, 14] {
-            list.add(MOV, form, MOV_LANE, guard(PLAIN, g));
-            list.add(MOV, form, MOV_LANE, guard(PLAIN, g) | 0xff);
+            list.add(MOV, form, MOV_SYSTEM_VALUE, guard(PLAIN, g));
+            list.add(MOV, form, MOV_SYSTEM_VALUE, guard(PLAIN, g) | 0xff);
         }
-        list.add(MOV32I, form, MOV_LANE, PLAIN);
+        list.add(MOV32I, form, MOV_SYSTEM_VALUE, PLAIN);
     }
     for bit in [0, 51, 63] {
-        list.add(MOV, REG, MOV_LANE ^ 1 << bit, PLAIN);
+        list.add(MOV, REG, MOV_SYSTEM_VALUE ^ 1 << bit, PLAIN);
     }
     // i2i from 16 bits at byte 3 likewise.
     let refused = PLAIN & !0xff00 | 1 << 10 | 3 << 41;
@@ -410,7 +410,7 @@ fn refusals(list: &mut List) {
             list.add(I2I, form, 0, guard(refused, g));
             list.add(I2I, form, 0, guard(refused, g) | 0xff);
         }
-        list.add(I2I, form, MOV_LANE, refused);
+        list.add(I2I, form, MOV_SYSTEM_VALUE, refused);
     }
     list.bits(I2I, &[REG], 0, refused, &[10, 11, 41, 42]);
     list.bits(I2I, &[REG], 0, refused, &[12, 13, 50]);
@@ -459,9 +459,9 @@ mod tests {
         let mut rest = &bytes[..];
         let mut longest = 0;
         for record in records() {
-            let (head, behind) = rest.split_at(26);
+            let (head, after) = rest.split_at(26);
             let length = usize::from(u16::from_le_bytes([head[24], head[25]]));
-            let (strip, behind) = behind.split_at(length);
+            let (strip, after) = after.split_at(length);
             let mut marks = [0; SLOTS];
             let answer = crate::translate(head[..18].try_into().unwrap(), &mut marks);
             assert_eq!(Record::parse(&head[..18]), Some(record));
@@ -476,7 +476,7 @@ mod tests {
             }
             assert_eq!(marks, expected);
             longest = longest.max(length);
-            rest = behind;
+            rest = after;
         }
         assert!(rest.is_empty());
         assert_eq!(longest, 239);

@@ -54,7 +54,7 @@ pub fn lines() -> String {
     text
 }
 
-/// The states before and behind a work.
+/// The states before and after a work.
 pub struct Step {
     pub before: State,
     pub after: State,

@@ -206,7 +206,7 @@ const BY_HAND: &[(&str, &str)] = &[
     ("8", "block taken with an undefined register store"),
     ("0", "block skipped with an undefined register store"),
     ("9", "block taken with a missing constant"),
-    ("0 R05=05050506", "block skipped with a missing constant, a strip behind it"),
+    ("0 R05=05050506", "block skipped with a missing constant, a strip after it"),
     ("0 R05=00000003 P1=0", "block by predicate 0 negated, which it stores"),
     ("0", "block by flag 0"),
     ("0 R05=02020202", "block by R1 unsigned < R2"),

@@ -316,7 +316,7 @@ fn extracted_fields() {
         (ONES, 0, 1, 1, ONES),
         (ONES, 0, 31, MAX, ONES),
         (0, 5, 9, 0, 0),
-        // A field without bits is 0, also behind the last bit.
+        // A field without bits is 0, also after the last bit.
         (ONES, 0, 0, 0, 0),
         (ONES, 7, 0, 0, 0),
         (ONES, 31, 0, 0, 0),
@@ -383,7 +383,7 @@ fn fields_that_pass_the_last_bit_are_undefined() {
 const UNDEFINED: &str =
     "01 00000000 | 01 20000000 | 2b 0000 0100 | 02 | 3c 0200 0200 | 0a 00 | 0b 0500 0000 0000 0000 |";
 
-/// Runs the entries behind those of [`UNDEFINED`]; the list has one word.
+/// Runs the entries after those of [`UNDEFINED`]; the list has one word.
 fn run_undefined(entries: &str) -> Result<State, Refusal> {
     evaluate(&bytes(&format!("{UNDEFINED} {entries} ff")), &State::default(), &[5])
 }
@@ -598,7 +598,7 @@ fn empty_runs_and_strips() {
 }
 
 #[test]
-fn strips_run_one_behind_another() {
+fn strips_run_one_after_another() {
     assert_eq!(run(COUNT).unwrap().registers[0], 1);
     assert_eq!(run(&COUNT.repeat(1000)).unwrap().registers[0], 1000);
     // The second strip loads what the first stored.
@@ -610,7 +610,7 @@ fn strips_run_one_behind_another() {
 
 #[test]
 fn loads_see_earlier_stores_of_their_strip() {
-    // Loads before and behind the store of 9.
+    // Loads before and after the store of 9.
     let strip = "04 00 | 01 09000000 | 07 00 0100 | 04 00 | 07 01 0000 | 07 02 0200 | ff";
     assert_eq!(run(strip).unwrap().registers[..3], [9, 0, 9]);
     let strip = "05 00 | 02 | 08 00 0100 | 05 00 | 08 01 0000 | 08 02 0200 | ff";
@@ -660,7 +660,7 @@ fn a_skipped_block_meets_nothing() {
     ] {
         assert_eq!(run(&format!("03 | {head} 64 0000 | {block} | 65 | ff")), Ok(State::default()), "{block}");
         assert_eq!(run(&format!("02 | {head} 64 0000 | {block} | 65 | ff")), Err(refusal), "{block}");
-        // What stands behind the strip runs.
+        // What stands after the strip runs.
         let state = run(&format!("03 | {head} 64 0000 | {block} | 65 | ff {COUNT}")).unwrap();
         assert_eq!(state.registers[0], 1);
     }
@@ -698,7 +698,7 @@ fn the_shape_of_the_whole_run_comes_first() {
 
 const BASE: u64 = 1 | 2 << 8 | 7 << 16 | 3 << 20;
 
-/// R1 and the flags behind the instruction, from a state with the given registers 2, 3, 4 and all predicates true.
+/// R1 and the flags after the instruction, from a state with the given registers 2, 3, 4 and all predicates true.
 fn row(kind: u8, form: u8, word: u64, registers: [u32; 3]) -> (u32, [bool; 4]) {
     let strip = translate(&Record { kind, form, value: 0, word }.to_bytes(), &mut [0; SLOTS]).unwrap();
     let mut state = State { predicates: [true; 7], ..State::default() };
@@ -876,7 +876,7 @@ impl Slow {
     }
 }
 
-/// The state behind the strips, each a list of entries of the right shape, or the refusal.
+/// The state after the strips, each a list of entries of the right shape, or the refusal.
 fn slow_run(strips: &[Vec<Entry>], start: &State, list: &[u32]) -> Result<State, Refusal> {
     strips.iter().try_fold(start.clone(), |state, strip| slow_strip(strip, state, list))
 }

@@ -137,10 +137,10 @@ fn no_strip_stores_a_slot() {
 }
 
 #[test]
-fn what_is_loaded_comes_in_behind_the_stores() {
+fn what_is_loaded_comes_in_after_the_stores() {
     // R1 = R1 + R2: R1 goes out and comes in again.
     gives("04 01 | 04 02 | 28 0000 0100 | 07 01 0200 | ff", "R1", "R1 R2");
-    // The load stands behind the store.
+    // The load stands after the store.
     gives("01 00000000 | 07 01 0000 | 04 01 | ff", "R1", "R1");
     gives("02 | 08 01 0000 | 05 01 | ff", "P1", "P1");
     gives("02 | 09 01 0000 | 06 01 | ff", "F1", "F1");

@@ -101,7 +101,7 @@ fn no_end_within_64_entries() {
             let strip = format!("{} ff", entry.repeat(entries));
             if well { good(&strip) } else { bad(&strip) }
         }
-        // The count starts anew behind an end.
+        // The count starts anew after an end.
         let strip = format!("02 ff {} ff", "02".repeat(entries));
         if well { good(&strip) } else { bad(&strip) }
     }

@@ -7,14 +7,14 @@ use Prim.Native.Nat.{ℕ}
 use lib.ListN.{length}
 use lib.Dec.{eqb}
 use Rattle.strip.specs.declared.reader.Entry.{Entry}
-use Rattle.strip.specs.declared.reader.Entry.the-variants as Of
+use Rattle.strip.specs.declared.reader.Entry.the-variants as Entry
 use Rattle.strip.specs.Shape.{decode, shapeOk}
 use Rattle.evaluation.specs.declared.state.State.{State}
 use Rattle.evaluation.specs.declared.machine.Outcome.{Outcome}
 use Rattle.evaluation.specs.declared.machine.Outcome.the-variants.{Refused}
 use Rattle.evaluation.specs.declared.machine.Refusal.the-variants.{BadShape, UndefinedValue}
 use Rattle.evaluation.specs.declared.machine.Evaluated.{Evaluated}
-use Rattle.evaluation.specs.Machine.{Effect, Push, SetReg, SetPred, SetFlag, Enter, Pass, Finish, Refuse, Midway, begun, refusalNumber, numberOf, isDone, entering, bareEffect, cellEffect, oneEffect, fourEffect, effectOf, muted, stepOf, outcomeOf, applied, ends, entriesFrom, stripsFrom, settled, evaluated, evaluation}
+use Rattle.evaluation.specs.Machine.{Effect, Push, SetReg, SetPred, SetFlag, Enter, Pass, Finish, Refuse, Midway, begun, refusalNumber, numberOf, isDone, entering, bareEffect, cellEffect, oneEffect, fourEffect, effectOf, muted, takenEffect, outcomeOf, applied, ends, entriesFrom, stripsFrom, restored, evaluated, evaluation}
 use Rattle.evaluation.proofs.Laws.{cond-all, with-truth, store-all, address-cases}
 
 -- ---- no entry refuses with 7
@@ -37,18 +37,18 @@ muted-fits (Refuse r) = refl
 
 effect-fits : (m : Midway) (e : Entry) (cs : List ℕ) → Fits (effectOf m e cs)
 unfolding effectOf bareEffect cellEffect oneEffect entering fourEffect outcomeOf numberOf refusalNumber
-effect-fits m (Of.Bare k) cs = cond-all Fits (eqb k 2) _ _ refl (cond-all Fits (eqb k 3) _ _ refl (cond-all Fits (eqb k 255) _ _ refl refl))
-effect-fits m (Of.Word w) cs = refl
-effect-fits m (Of.Cell k n) cs = cond-all Fits (eqb k 10) _ _ refl (cond-all Fits (eqb k 110) _ _ refl refl)
-effect-fits m (Of.Store k n r) cs = store-all Fits k n refl (λ w. refl) (λ t. refl) (λ t. refl) _
-effect-fits m (Of.One k a) cs =
+effect-fits m (Entry.Bare k) cs = cond-all Fits (eqb k 2) _ _ refl (cond-all Fits (eqb k 3) _ _ refl (cond-all Fits (eqb k 255) _ _ refl refl))
+effect-fits m (Entry.Word w) cs = refl
+effect-fits m (Entry.Cell k n) cs = cond-all Fits (eqb k 10) _ _ refl (cond-all Fits (eqb k 110) _ _ refl refl)
+effect-fits m (Entry.Store k n r) cs = store-all Fits k n refl (λ w. refl) (λ t. refl) (λ t. refl) _
+effect-fits m (Entry.One k a) cs =
     cond-all Fits (eqb k 12) _ _ refl (cond-all Fits (eqb k 80) _ _ refl (cond-all Fits (eqb k 100) _ _ (with-truth Fits (Refuse UndefinedValue) _ (λ t. Enter t) refl (λ t. refl)) refl))
-effect-fits m (Of.Two k a b) cs = refl
-effect-fits m (Of.Three k a b c) cs = refl
-effect-fits m (Of.Four k a b c d) cs = cond-all Fits (eqb k 11) _ _ (address-cases Fits refl refl (λ v. refl) _ _ _ _ (length cs)) refl
+effect-fits m (Entry.Two k a b) cs = refl
+effect-fits m (Entry.Three k a b c) cs = refl
+effect-fits m (Entry.Four k a b c d) cs = cond-all Fits (eqb k 11) _ _ (address-cases Fits refl refl (λ v. refl) _ _ _ _ (length cs)) refl
 
-step-fits : (m : Midway) (e : Entry) (cs : List ℕ) → Fits (stepOf m e cs)
-unfolding stepOf
+step-fits : (m : Midway) (e : Entry) (cs : List ℕ) → Fits (takenEffect m e cs)
+unfolding takenEffect
 step-fits m e cs = cond-all Fits (m .skip) _ _ (muted-fits (effectOf m e cs)) (effect-fits m e cs)
 
 module _ (cs : List ℕ) where
@@ -58,15 +58,15 @@ module _ (cs : List ℕ) where
   entries-fit : (m : Midway) (es : List Entry) → Fit (entriesFrom cs m es)
   unfolding entriesFrom numberOf
   entries-fit m [] = refl
-  entries-fit m (e ∷ es) = cond-all Fit (isDone (outcomeOf (stepOf m e cs))) _ _ (entries-fit (applied m (stepOf m e cs)) es) (step-fits m e cs)
+  entries-fit m (e ∷ es) = cond-all Fit (isDone (outcomeOf (takenEffect m e cs))) _ _ (entries-fit (applied m (takenEffect m e cs)) es) (step-fits m e cs)
 
   strips-fit : (s : State) (ss : List (List Entry)) → Fit (stripsFrom cs s ss)
   unfolding stripsFrom numberOf
   strips-fit s [] = refl
   strips-fit s (es ∷ ss) = cond-all Fit (isDone (entriesFrom cs (begun s) es .outcome)) _ _ (strips-fit (entriesFrom cs (begun s) es .state) ss) (entries-fit (begun s) es)
 
-  settled-fit : (s : State) (r : Evaluated) → Fit r → Fit (settled s r)
-  settled-fit s r h = cond-all Fit (isDone (r .outcome)) _ _ h h
+  stored-all-fit : (s : State) (r : Evaluated) → Fit r → Fit (restored s r)
+  stored-all-fit s r h = cond-all Fit (isDone (r .outcome)) _ _ h h
 
   -- ---- for every run, state and lent list
   module _ (run : List ℕ) (s : State) where
@@ -74,7 +74,7 @@ module _ (cs : List ℕ) where
     pub well-formed-not-7 : shapeOk run ≡ true → evaluation run s cs .number ≡ 7 → ⊥
     unfolding evaluated
     well-formed-not-7 ok is =
-        let fit : Fit (evaluated run s cs) = rw ok (settled-fit s _ (strips-fit s (Option·getD (decode run) []))) in
+        let fit : Fit (evaluated run s cs) = rw ok (stored-all-fit s _ (strips-fit s (Option·getD (decode run) []))) in
         false≢true (sym fit ∙ ap (λ (n : ℕ). eqb n 7) is)
 
     pub well-formed-passes : shapeOk run ≡ true → evaluated run s cs .outcome ≡ Refused BadShape → ⊥
@@ -90,13 +90,13 @@ module _ (cs : List ℕ) where
     pub refused-keeps-start : isDone (evaluated run s cs .outcome) ≡ false → evaluated run s cs .state ≡ s
     unfolding evaluated
     refused-keeps-start =
-        cond-all Start (shapeOk run) _ _ (settled-start (stripsFrom cs s (Option·getD (decode run) []))) (λ h. refl)
+        cond-all Start (shapeOk run) _ _ (restored-start (stripsFrom cs s (Option·getD (decode run) []))) (λ h. refl)
       where
         Start : Evaluated → Type 0
         Start r = isDone (r .outcome) ≡ false → r .state ≡ s
 
-        settled-start : (r : Evaluated) → Start (settled s r)
-        settled-start r = go (isDone (r .outcome)) refl
+        restored-start : (r : Evaluated) → Start (restored s r)
+        restored-start r = go (isDone (r .outcome)) refl
           where
             go : (b : Bool) → isDone (r .outcome) ≡ b → Start (cond b r (ends (r .outcome) s))
             go true p h = absurd (true≢false (sym p ∙ h))

@@ -14,9 +14,9 @@ use Rattle.evaluation.specs.declared.machine.Refusal.{Refusal}
 use Rattle.evaluation.specs.declared.machine.Refusal.the-variants.{BadShape, UndefinedValue, NoConstant}
 use Rattle.evaluation.specs.Machine.{numberOf, refusalNumber, Answer, answerOf, evaluation}
 use borrow.Author.Tests.{eq-eqb, ne-eqb}
-use Rattle.truth_bytes.specs.Truths.{bit, truthsAt}
-use Rattle.evaluation_host.specs.States.{stateIn, truthsOf, answer, given, evaluateAnswer}
-use Rattle.truth_bytes.proofs.Front.{behind, whole}
+use Rattle.truth_bytes.specs.Truths.{truthByte, truthsAt}
+use Rattle.evaluation_host.specs.States.{stateIn, truthBytes, returns, handedBack, evaluateAnswer}
+use Rattle.truth_bytes.proofs.Front.{appended, whole}
 
 -- ---- a state in two lists
 pub state-read : {regs : List ℕ} {preds flags : List Bool} (rs ts : List ℕ) → regs ≡ rs → preds ≡ truthsAt 7 0 ts → flags ≡ truthsAt 4 7 ts
@@ -25,22 +25,22 @@ unfolding stateIn
 state-read rs ts p q r = rw (p, q, r)
 
 pub truths-written : {ts₁ ts₂ : List ℕ} (s : State) (ts : List ℕ) → length (s .preds) ≡ 7 → length (s .flags) ≡ 4 → length ts ≡ 11
-    → ts₁ ≡ sets ts 0 (map bit (s .preds)) → ts₂ ≡ sets ts₁ 7 (map bit (s .flags)) → ts₂ ≡ truthsOf s
-unfolding truthsOf
+    → ts₁ ≡ sets ts 0 (map truthByte (s .preds)) → ts₂ ≡ sets ts₁ 7 (map truthByte (s .flags)) → ts₂ ≡ truthBytes s
+unfolding truthBytes
 truths-written {ts₁} s ts p f h e₁ e₂ =
-    whole (s .preds ++ s .flags) 11 (behind ts₁ (s .preds) (s .flags) 7 4 11 f (omega arith) (behind ts [] (s .preds) 0 7 11 p (omega arith) (refl, h) e₁) e₂)
+    whole (s .preds ++ s .flags) 11 (appended ts₁ (s .preds) (s .flags) 7 4 11 f (omega arith) (appended ts [] (s .preds) 0 7 11 p (omega arith) (refl, h) e₁) e₂)
 
 -- ---- the answer
 module _ (run rs ts cs : List ℕ) where
-  pub wrong-registers : (length rs ≡ 255 → ⊥) → answer 7 rs ts ≡ evaluateAnswer run rs ts cs
+  pub wrong-registers : (length rs ≡ 255 → ⊥) → returns 7 rs ts ≡ evaluateAnswer run rs ts cs
   unfolding evaluateAnswer
   wrong-registers h = rw (ne-eqb (length rs) 255 h)
 
-  pub wrong-truths : length rs ≡ 255 → (length ts ≡ 11 → ⊥) → answer 7 rs ts ≡ evaluateAnswer run rs ts cs
+  pub wrong-truths : length rs ≡ 255 → (length ts ≡ 11 → ⊥) → returns 7 rs ts ≡ evaluateAnswer run rs ts cs
   unfolding evaluateAnswer
   wrong-truths e h = rw (eq-eqb (length rs) 255 e, ne-eqb (length ts) 11 h)
 
-  pub ran : {s : State} {a : Answer} → length rs ≡ 255 → length ts ≡ 11 → s ≡ stateIn rs ts → a ≡ evaluation run s cs → given a rs ts ≡ evaluateAnswer run rs ts cs
+  pub ran : {s : State} {a : Answer} → length rs ≡ 255 → length ts ≡ 11 → s ≡ stateIn rs ts → a ≡ evaluation run s cs → handedBack a rs ts ≡ evaluateAnswer run rs ts cs
   unfolding evaluateAnswer
   ran e h p q = rw (eq-eqb (length rs) 255 e, eq-eqb (length ts) 11 h, ← p, ← q)
 
@@ -51,10 +51,10 @@ nonzero UndefinedValue = refl
 nonzero NoConstant = refl
 
 module _ (r : Evaluated) (rs ts : List ℕ) where
-  pub done : {rs' ts' : List ℕ} → r .outcome ≡ Done → rs' ≡ r .state .regs → ts' ≡ truthsOf (r .state) → answer 0 rs' ts' ≡ given (answerOf r) rs ts
-  unfolding given numberOf
+  pub done : {rs' ts' : List ℕ} → r .outcome ≡ Done → rs' ≡ r .state .regs → ts' ≡ truthBytes (r .state) → returns 0 rs' ts' ≡ handedBack (answerOf r) rs ts
+  unfolding handedBack numberOf
   done o p q = rw (o, p, q)
 
-  pub refused : {n : ℕ} {f : Refusal} → r .outcome ≡ Refused f → n ≡ refusalNumber f → answer n rs ts ≡ given (answerOf r) rs ts
-  unfolding given numberOf
+  pub refused : {n : ℕ} {f : Refusal} → r .outcome ≡ Refused f → n ≡ refusalNumber f → returns n rs ts ≡ handedBack (answerOf r) rs ts
+  unfolding handedBack numberOf
   refused {f = f} o p = rw (o, p, nonzero f)

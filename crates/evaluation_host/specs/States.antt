@@ -7,15 +7,15 @@ use lib.Dec.{eqb}
 use Rattle.evaluation.specs.declared.state.State.{State}
 use Rattle.evaluation.specs.Machine.{evaluation}
 use Rattle.evaluation.specs.Machine as Evaluation
-use Rattle.truth_bytes.specs.Truths.{bit, truthsAt}
+use Rattle.truth_bytes.specs.Truths.{truthByte, truthsAt}
 
 -- the state that two lists hold
 unfoldable pub stateIn : List ℕ → List ℕ → State
 stateIn registers truths = record { regs = registers; preds = truthsAt 7 0 truths; flags = truthsAt 4 7 truths }
 
 -- and the truths of a state, as bytes
-unfoldable pub truthsOf : State → List ℕ
-truthsOf s = map bit (s .preds ++ s .flags)
+unfoldable pub truthBytes : State → List ℕ
+truthBytes s = map truthByte (s .preds ++ s .flags)
 
 -- the number that is returned, and what the two lists hold then
 pub record Answer : Type 0 where
@@ -23,14 +23,14 @@ pub record Answer : Type 0 where
   pub registers : List ℕ
   pub truths : List ℕ
 
-abbrev pub answer : ℕ → List ℕ → List ℕ → Answer
-answer n rs ts = record { number = n; registers = rs; truths = ts }
+abbrev pub returns : ℕ → List ℕ → List ℕ → Answer
+returns n rs ts = record { number = n; registers = rs; truths = ts }
 
 -- the number of the evaluation, and the state after it where that is 0; a refusal leaves both lists as they were
-unfoldable pub given : Evaluation.Answer → List ℕ → List ℕ → Answer
-given a rs ts = cond (eqb (a .number) 0) (answer (a .number) (a .state .regs) (truthsOf (a .state))) (answer (a .number) rs ts)
+unfoldable pub handedBack : Evaluation.Answer → List ℕ → List ℕ → Answer
+handedBack a rs ts = cond (eqb (a .number) 0) (returns (a .number) (a .state .regs) (truthBytes (a .state))) (returns (a .number) rs ts)
 
 -- lists of another length hold no state
 unfoldable pub evaluateAnswer : List ℕ → List ℕ → List ℕ → List ℕ → Answer
 evaluateAnswer run rs ts constants =
-    cond (eqb (length rs) 255 && eqb (length ts) 11) (given (evaluation run (stateIn rs ts) constants) rs ts) (answer 7 rs ts)
+    cond (eqb (length rs) 255 && eqb (length ts) 11) (handedBack (evaluation run (stateIn rs ts) constants) rs ts) (returns 7 rs ts)

@@ -1,7 +1,7 @@
 // Evaluation with C linkage, on states in two lists. A library of its own: a second caller of the reader would make it slower (docs/DECISIONS.md).
 ghost use mathlib.Core.Path.{_≡_};
 ghost use lib.ListN.{length};
-ghost use Rattle.evaluation_host.specs.States.{stateIn, truthsOf, answer, evaluateAnswer};
+ghost use Rattle.evaluation_host.specs.States.{stateIn, truthBytes, returns, evaluateAnswer};
 use evaluation::Outcome;
 use evaluation::State;
 use truth_bytes::read_truths;
@@ -40,7 +40,7 @@ fn state_in(registers: &[u32], truths: &[u8]) -> State
 // A state into two lists.
 fn state_out(state: State, registers: &mut [u32], truths: &mut [u8])
     requires { ⌜ (length (now registers) ≡ 255) × (length (now truths) ≡ 11) ⌝ }
-    ensures { λ _. ⌜ (now (registers .exit) ≡ state .regs) × (now (truths .exit) ≡ truthsOf state) ⌝ }
+    ensures { λ _. ⌜ (now (registers .exit) ≡ state .regs) × (now (truths .exit) ≡ truthBytes state) ⌝ }
 {
     let regs = state.regs;
     let preds = state.preds;
@@ -59,7 +59,7 @@ pub extern "C" fn mehkura_evaluate(
     truths: &mut [u8],
     constants: &[u32],
 ) -> u32
-    ensures { λ r. ⌜ answer r (now (registers .exit)) (now (truths .exit)) ≡ evaluateAnswer (now (run .entry)) (now (registers .entry)) (now (truths .entry)) (now (constants .entry)) ⌝ }
+    ensures { λ r. ⌜ returns r (now (registers .exit)) (now (truths .exit)) ≡ evaluateAnswer (now (run .entry)) (now (registers .entry)) (now (truths .entry)) (now (constants .entry)) ⌝ }
 {
     if registers.len() != 255 {
         return 7;

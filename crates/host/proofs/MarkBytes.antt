@@ -7,17 +7,17 @@ use native.Mathlib.Numerals.{towards-suc}
 use lib.ListN.{length, take, drop, getD, set}
 use lib.Seq.{take-all, take-suc, take-suc-set, sets}
 use borrow.Author.Tests.{eq-eqb, ne-eqb}
-use Rattle.strip.specs.Entry.{wordAt, wordBytes, readOf, readAs, encode, kindOf, immediateOf, refsOf, short}
-use Rattle.strip.specs.declared.reader.Entry.the-variants as Of
+use Rattle.strip.specs.Entry.{wordAt, wordBytes, readEntry, readAs, encode, kindOf, immediateOf, refsOf, short}
+use Rattle.strip.specs.declared.reader.Entry.the-variants as Entry
 use Rattle.strip.specs.Format.{formatOf}
 use Rattle.strip.proofs.Encode.{Bytes, read-is}
 use Rattle.translation.specs.declared.answer.Outcome.the-variants.{Written, Refused}
 use Rattle.translation.specs.declared.answer.Refusal.{Refusal}
 use Rattle.translation.specs.declared.answer.Translated.{Translated}
 use Rattle.translation.specs.Strip as T
-use Rattle.translation.specs.Whole.{answered}
+use Rattle.translation.specs.Whole.{decisionOf}
 use Rattle.truth_bytes.proofs.Lists.{sets-upto}
-use Rattle.host.specs.Marks.{wordsIn, bytesOf, answer, answerOf, given, translateAnswer}
+use Rattle.host.specs.Marks.{wordsIn, markBytes, returns, byOutcome, handedBack, translateAnswer}
 
 -- ---- the marks, word by word
 
@@ -35,49 +35,49 @@ pub words-all : (bytes marks : List ℕ) (i : ℕ) → 32 ≤ i → i ≤ 32 →
 words-all bytes marks i l g h e = let k : i ≡ 32 = omega arith in sym (take-all i marks (omega arith)) ∙ e ∙ ap (λ (n : ℕ). wordsIn n bytes) k
 
 -- the same for writing
-pub bytes-start : [] ≡ bytesOf []
-unfolding bytesOf
+pub bytes-start : [] ≡ markBytes []
+unfolding markBytes
 bytes-start = refl
 
-bytes-snoc : (ws : List ℕ) (w : ℕ) → bytesOf (ws ++ (w ∷ [])) ≡ bytesOf ws ++ wordBytes w
-unfolding bytesOf
+bytes-snoc : (ws : List ℕ) (w : ℕ) → markBytes (ws ++ (w ∷ [])) ≡ markBytes ws ++ wordBytes w
+unfolding markBytes
 bytes-snoc [] w = append-nil (wordBytes w)
-bytes-snoc (x ∷ ws) w = ap (λ (l : List ℕ). wordBytes x ++ l) (bytes-snoc ws w) ∙ sym (append-assoc (wordBytes x) (bytesOf ws) (wordBytes w))
+bytes-snoc (x ∷ ws) w = ap (λ (l : List ℕ). wordBytes x ++ l) (bytes-snoc ws w) ∙ sym (append-assoc (wordBytes x) (markBytes ws) (wordBytes w))
 
-pub bytes-next : (marks bytes : List ℕ) (i : ℕ) → i < length marks → i * 4 + 4 ≤ length bytes → take (i * 4) bytes ≡ bytesOf (take i marks)
-    → take (suc i * 4) (sets bytes (i * 4) (wordBytes (getD marks i 0))) ≡ bytesOf (take (suc i) marks)
+pub bytes-next : (marks bytes : List ℕ) (i : ℕ) → i < length marks → i * 4 + 4 ≤ length bytes → take (i * 4) bytes ≡ markBytes (take i marks)
+    → take (suc i * 4) (sets bytes (i * 4) (wordBytes (getD marks i 0))) ≡ markBytes (take (suc i) marks)
 bytes-next marks bytes i h k e = rw (sets-upto bytes (wordBytes (getD marks i 0)) (i * 4) (suc i * 4) k (omega arith), e, take-suc marks i 0 h, bytes-snoc)
 
-pub bytes-all : (marks bytes : List ℕ) (i : ℕ) → length marks ≤ i → length bytes ≤ i * 4 → take (i * 4) bytes ≡ bytesOf (take i marks) → bytes ≡ bytesOf marks
-bytes-all marks bytes i h k e = sym (take-all (i * 4) bytes k) ∙ e ∙ ap bytesOf (take-all i marks h)
+pub bytes-all : (marks bytes : List ℕ) (i : ℕ) → length marks ≤ i → length bytes ≤ i * 4 → take (i * 4) bytes ≡ markBytes (take i marks) → bytes ≡ markBytes marks
+bytes-all marks bytes i h k e = sym (take-all (i * 4) bytes k) ∙ e ∙ ap markBytes (take-all i marks h)
 
 -- ---- the answer
 module _ (bytes marks out : List ℕ) (written : ℕ) where
-  pub wrong-marks : (length marks ≡ 128 → ⊥) → answer 1 written marks out ≡ translateAnswer bytes written marks out
+  pub wrong-marks : (length marks ≡ 128 → ⊥) → returns 1 written marks out ≡ translateAnswer bytes written marks out
   unfolding translateAnswer
   wrong-marks h = rw (ne-eqb (length marks) 128 h)
 
   pub tried : {used : List ℕ} (a : T.Decision) → length marks ≡ 128 → used ≡ wordsIn 32 marks
-      → a ≡ T.decision bytes used out → given a written marks ≡ translateAnswer bytes written marks out
+      → a ≡ T.decision bytes used out → handedBack a written marks ≡ translateAnswer bytes written marks out
   unfolding translateAnswer
   tried a e p q = rw (eq-eqb (length marks) 128 e, ← p, ← q)
 
 module _ (r : Translated) (out : List ℕ) (written : ℕ) (marks : List ℕ) where
-  pub translated : {n : ℕ} {marks' : List ℕ} → r .outcome ≡ Written n → marks' ≡ bytesOf (r .«cbuf_used»)
-      → answer 0 n marks' out ≡ given (answered r out) written marks
-  unfolding answerOf
+  pub translated : {n : ℕ} {marks' : List ℕ} → r .outcome ≡ Written n → marks' ≡ markBytes (r .«cbuf_used»)
+      → returns 0 n marks' out ≡ handedBack (decisionOf r out) written marks
+  unfolding byOutcome
   translated o p = rw (o, p)
 
-  pub refused : {n : ℕ} {f : Refusal} → r .outcome ≡ Refused f → n ≡ T.refusalNumber f → answer n written marks out ≡ given (answered r out) written marks
-  unfolding answerOf
+  pub refused : {n : ℕ} {f : Refusal} → r .outcome ≡ Refused f → n ≡ T.refusalNumber f → returns n written marks out ≡ handedBack (decisionOf r out) written marks
+  unfolding byOutcome
   refused o p = rw (o, p)
 
 -- ---- what is read and written back is what stood there
 
 -- four bytes and their word
 four : (x y z w : ℕ) → x < 256 → y < 256 → z < 256 → w < 256 → wordBytes ((x + y * 256) + (z + w * 256) * 65536) ≡ x ∷ y ∷ z ∷ w ∷ []
-unfolding readOf readAs encode kindOf immediateOf refsOf short formatOf
-four x y z w hx hy hz hw = ap behind (read-is s small (Of.Word (wordAt s 1)) 5 refl .bytes)
+unfolding readEntry readAs encode kindOf immediateOf refsOf short formatOf
+four x y z w hx hy hz hw = ap tail (read-is s small (Entry.Word (wordAt s 1)) 5 refl .bytes)
   where
     s : List ℕ
     s = 1 ∷ x ∷ y ∷ z ∷ w ∷ []
@@ -90,9 +90,9 @@ four x y z w hx hy hz hw = ap behind (read-is s small (Of.Word (wordAt s 1)) 5 r
     small (suc (suc (suc (suc zero)))) = hw
     small (suc (suc (suc (suc (suc i))))) = omega arith
 
-    behind : List ℕ → List ℕ
-    behind [] = []
-    behind (a ∷ l) = l
+    tail : List ℕ → List ℕ
+    tail [] = []
+    tail (a ∷ l) = l
 
 four-at : (l : List ℕ) → Bytes l → (k : ℕ) → k + 4 ≤ length l → take k l ++ wordBytes (wordAt l k) ≡ take (suc (suc (suc (suc k)))) l
 four-at l h k b =
@@ -105,7 +105,7 @@ four-at l h k b =
     )
     (simp (append-assoc, towards-suc))
 
-pub marks-back : (n : ℕ) (l : List ℕ) → Bytes l → n * 4 ≤ length l → bytesOf (wordsIn n l) ≡ take (n * 4) l
+pub marks-back : (n : ℕ) (l : List ℕ) → Bytes l → n * 4 ≤ length l → markBytes (wordsIn n l) ≡ take (n * 4) l
 unfolding wordsIn
 marks-back zero l h k = sym bytes-start
 marks-back (suc n) l h k =
@@ -113,5 +113,5 @@ marks-back (suc n) l h k =
     rw (bytes-snoc, marks-back n l h (omega arith), e) (four-at l h (n * 4) (omega arith))
 
 -- marks that nothing raises come back byte for byte
-pub marks-kept : (l : List ℕ) → Bytes l → length l ≡ 128 → bytesOf (wordsIn 32 l) ≡ l
+pub marks-kept : (l : List ℕ) → Bytes l → length l ≡ 128 → markBytes (wordsIn 32 l) ≡ l
 marks-kept l h e = marks-back 32 l h (omega arith) ∙ take-all 128 l (omega arith)

@@ -15,9 +15,9 @@ wordsIn zero bytes = []
 wordsIn (suc n) bytes = wordsIn n bytes ++ (wordAt bytes (n * 4) ∷ [])
 
 -- and the bytes of words
-unfoldable pub bytesOf : List ℕ → List ℕ
-bytesOf [] = []
-bytesOf (w ∷ ws) = wordBytes w ++ bytesOf ws
+unfoldable pub markBytes : List ℕ → List ℕ
+markBytes [] = []
+markBytes (w ∷ ws) = wordBytes w ++ markBytes ws
 
 -- the number that is returned, and what the length, the marks and the room are then
 pub record Answer : Type 0 where
@@ -26,19 +26,19 @@ pub record Answer : Type 0 where
   pub marks : List ℕ
   pub out : List ℕ
 
-abbrev pub answer : ℕ → ℕ → List ℕ → List ℕ → Answer
-answer number written marks out = record { number = number; written = written; marks = marks; out = out }
+abbrev pub returns : ℕ → ℕ → List ℕ → List ℕ → Answer
+returns number written marks out = record { number = number; written = written; marks = marks; out = out }
 
 -- a strip has its length and its marks; a refusal leaves both as they were
-unfoldable pub answerOf : Outcome → List ℕ → List ℕ → ℕ → List ℕ → Answer
-answerOf (Written n) used out written marks = answer 0 n (bytesOf used) out
-answerOf (Refused r) used out written marks = answer (T.refusalNumber r) written marks out
+unfoldable pub byOutcome : Outcome → List ℕ → List ℕ → ℕ → List ℕ → Answer
+byOutcome (Written n) used out written marks = returns 0 n (markBytes used) out
+byOutcome (Refused r) used out written marks = returns (T.refusalNumber r) written marks out
 
 -- from what the translation answers
-abbrev pub given : T.Decision → ℕ → List ℕ → Answer
-given a written marks = answerOf (a .outcome) (a .marks) (a .out) written marks
+abbrev pub handedBack : T.Decision → ℕ → List ℕ → Answer
+handedBack a written marks = byOutcome (a .outcome) (a .marks) (a .out) written marks
 
 -- marks of another length are refused before the record is looked at
 unfoldable pub translateAnswer : List ℕ → ℕ → List ℕ → List ℕ → Answer
 translateAnswer bytes written marks out =
-    cond (eqb (length marks) 128) (given (T.decision bytes (wordsIn 32 marks) out) written marks) (answer 1 written marks out)
+    cond (eqb (length marks) 128) (handedBack (T.decision bytes (wordsIn 32 marks) out) written marks) (returns 1 written marks out)

@@ -1,7 +1,7 @@
 // Reach, on cells in 298 bytes.
 ghost use mathlib.Core.Path.{_≡_};
 ghost use lib.ListN.{length};
-ghost use Rattle.host.specs.Cells.{cellsIn, bytesOf, answer, reachAnswer};
+ghost use Rattle.host.specs.Cells.{cellsIn, cellBytes, returns, reachAnswer};
 use reach::Cells;
 use reach::Outcome;
 use truth_bytes::read_truths;
@@ -31,7 +31,7 @@ fn read_cells(bytes: &[u8]) -> Cells
 // Cells into bytes.
 fn write_cells(c: Cells, bytes: &mut [u8])
     requires { ⌜ length (now bytes) ≡ 298 ⌝ }
-    ensures { λ _. ⌜ now (bytes .exit) ≡ bytesOf c ⌝ }
+    ensures { λ _. ⌜ now (bytes .exit) ≡ cellBytes c ⌝ }
 {
     let regs = c.regs;
     let preds = c.preds;
@@ -44,11 +44,11 @@ fn write_cells(c: Cells, bytes: &mut [u8])
 }
 
 // The cells at the start of a run that can matter to the listed ones at its end, in place: 255 registers, 7 predicates, the flags Z, S, C, O and 32
-// constant slots, a byte each (nonzero is listed, answered as 1). 0 where the rule answers; 7 where the run is not in order, and for another
+// constant slots, a byte each (nonzero is listed, answered as 1). 0 where the rule answers; 7 where the run is not well-formed, and for another
 // length of cells; a refusal leaves the bytes as they were.
 #[no_mangle]
 pub extern "C" fn mehkura_reach(run: &[u8], cells: &mut [u8]) -> u32
-    ensures { λ r. ⌜ answer r (now (cells .exit)) ≡ reachAnswer (now (run .entry)) (now (cells .entry)) ⌝ }
+    ensures { λ r. ⌜ returns r (now (cells .exit)) ≡ reachAnswer (now (run .entry)) (now (cells .entry)) ⌝ }
 {
     if cells.len() != 298 {
         return 7;

@@ -4,7 +4,7 @@ ghost use Prim.Native.Nat.{_+_, _≤_, _<_};
 ghost use lib.ListN.{length};
 ghost use lib.Seq.{sets};
 ghost use Rattle.strip.specs.Entry.{refAt, wordAt, wordBytes};
-ghost use Rattle.host.specs.Marks.{wordsIn, bytesOf, answer, translateAnswer};
+ghost use Rattle.host.specs.Marks.{wordsIn, markBytes, returns, translateAnswer};
 use translation::Outcome;
 
 fn wide(b: u8) -> u32
@@ -55,7 +55,7 @@ fn read_marks(bytes: &[u8]) -> [u32; 32]
 
 fn write_marks(marks: &[u32], bytes: &mut [u8])
     requires { ⌜ (length (now marks) ≡ 32) × (length (now bytes) ≡ 128) ⌝ }
-    ensures { λ _. ⌜ now (bytes .exit) ≡ bytesOf (now (marks .entry)) ⌝ }
+    ensures { λ _. ⌜ now (bytes .exit) ≡ markBytes (now (marks .entry)) ⌝ }
 {
     let mut i = 0;
     while i < 32 {
@@ -73,7 +73,7 @@ pub extern "C" fn mehkura_translate(
     out: &mut [u8],
     written: &mut usize,
 ) -> u32
-    ensures { λ r. ⌜ answer r (now (written .exit)) (now (marks .exit)) (now (out .exit)) ≡ translateAnswer (now (bytes .entry)) (now (written .entry)) (now (marks .entry)) (now (out .entry)) ⌝ }
+    ensures { λ r. ⌜ returns r (now (written .exit)) (now (marks .exit)) (now (out .exit)) ≡ translateAnswer (now (bytes .entry)) (now (written .entry)) (now (marks .entry)) (now (out .entry)) ⌝ }
 {
     if marks.len() != 128 {
         return 1;

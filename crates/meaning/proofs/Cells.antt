@@ -35,8 +35,8 @@ use Rattle.meaning.proofs.Digits.{bits-ext, from-bits, bit-none, bit-an
 
 -- ---- cells: predicates or flags
 
-mask-is : (i : Record) → A.maskOf (insn i) ≡ M.mask i
-unfolding A.maskOf
+mask-is : (i : Record) → A.predicateMask (insn i) ≡ M.mask i
+unfolding A.predicateMask
 mask-is i = rw (simm20-same i) refl
 
 -- the cells that are asked for: those that the mask names, as far as there are any

@@ -9,7 +9,7 @@ use lib.Signed.{ltZ}
 use lib.Pow.{pow-pos, pow-mono}
 use borrow.Author.Tests.{ltb-true, ltb-false, lt-ltb, le-ltb}
 use Rattle.evaluation.specs.Word.{sLess, uMin, sMin, sMax}
-use Rattle.meaning.specs.Number.{signedOf, numberOf, wordOf, clamp, least, greatest}
+use Rattle.meaning.specs.Number.{signedOf, integerOf, wordOf, clamp, least, greatest}
 use Rattle.meaning.proofs.Order.{sless-is}
 
 -- a word's signed number wraps to the word
@@ -21,7 +21,7 @@ word-signed x h = go (ltb (x * 2) (2 ^ 32)) refl
     go true e = omega arith
     go false e = omega arith
 
-word-number : (sign : Bool) (x : ℕ) → x < 2 ^ 32 → wordOf (numberOf sign 32 x) ≡ x
+word-number : (sign : Bool) (x : ℕ) → x < 2 ^ 32 → wordOf (integerOf sign 32 x) ≡ x
 unfolding wordOf
 word-number true x h = word-signed x h
 word-number false x h = omega arith
@@ -148,7 +148,7 @@ module _ (v : ℕ) (hv : v < 2 ^ 32) where
       go false = sym (word-signed v hv)
 
   -- a word is within the bounds of its sign
-  within : (sign : Bool) → (ltZ (numberOf sign 32 v) (least sign 32) ≡ false) × (ltZ (greatest sign 32) (numberOf sign 32 v) ≡ false)
+  within : (sign : Bool) → (ltZ (integerOf sign 32 v) (least sign 32) ≡ false) × (ltZ (greatest sign 32) (integerOf sign 32 v) ≡ false)
   unfolding least greatest signedOf
   within true = go (ltb (v * 2) (2 ^ 32)) refl
     where
@@ -159,6 +159,6 @@ module _ (v : ℕ) (hv : v < 2 ^ 32) where
   within false = (le-ltb v 0 (omega arith), le-ltb (2 ^ 32 - 1) v (omega arith))
 
   -- a word to a word of the same sign
-  pub clamp-same : (sign : Bool) → wordOf (clamp (least sign 32) (greatest sign 32) (numberOf sign 32 v)) ≡ v
+  pub clamp-same : (sign : Bool) → wordOf (clamp (least sign 32) (greatest sign 32) (integerOf sign 32 v)) ≡ v
   unfolding clamp
   clamp-same sign = rw (within sign .0, within sign .1) (word-number sign v hv)

@@ -19,15 +19,15 @@ use Rattle.translation.specs.Insn as T
 use Rattle.meaning.specs.Record.{Record, bits, bit, rd, ra}
 use Rattle.meaning.proofs.Reading.{insn}
 use Rattle.translation.specs.Helpers.{p, boolOp, lessThan, lessThanEqual, greaterThan, greaterThanEqual, intCmp, ccFlags, ccCase, ccTest}
-use Rattle.translation.specs.Arms.{setpBoth, truthWord, setTruth, setWord, setEither, csetp, icompare, pcombine, minOf, maxOf, imnmx, icmpOf, icmpSwaps, icmpBc, icmp}
+use Rattle.translation.specs.Arms.{setpBoth, truthWord, setTruth, setWord, setEither, csetp, icompare, pcombine, minimum, maximum, imnmx, icmpWords, icmpSwaps, icmpBc, icmp}
 use Rattle.meaning.proofs.Reading.{bits-lt}
-use Rattle.meaning.specs.Number.{numberOf, smaller, greater, bitAt}
+use Rattle.meaning.specs.Number.{integerOf, smaller, greater, bitAt}
 use Rattle.meaning.specs.Operand.{reg, setReg, flag, operandB}
 use Rattle.meaning.specs.Meaning as M
 use Rattle.translation.proofs.Sem.{ran, halted, sem}
 use Rattle.meaning.proofs.Order.{sless-is, not-ltb, not-ltZ}
 use Rattle.translation.proofs.Stays.{Proper}
-use Rattle.meaning.proofs.Helper.{reg-word, operand-word, set-sem, setp-sem, srcB-sem, srcB-missing, srcBc-sem, srcBc-missing, setCcIf-sem, b2u-sem, missing, final, select-is, ra-sem, second-word, Gives, given, truths, p-sem, chosen-word}
+use Rattle.meaning.proofs.Helper.{reg-word, operand-word, set-sem, setp-sem, srcB-sem, srcB-missing, srcBc-sem, srcBc-missing, setCcIf-sem, b2u-sem, missing, final, select-is, ra-sem, second-word, Gives, code-gives, truths, p-sem, chosen-word}
 
 -- ---- two words: exactly one of less, equal and greater
 
@@ -39,7 +39,7 @@ key sign x = cond sign ((x + 2 ^ 31) % 2 ^ 32) x
 abbrev less : Bool → ℕ → ℕ → Bool
 less sign x y = ltb (key sign x) (key sign y)
 
-less-is : (sign : Bool) (x y : ℕ) → x < 2 ^ 32 → y < 2 ^ 32 → ltZ (numberOf sign 32 x) (numberOf sign 32 y) ≡ less sign x y
+less-is : (sign : Bool) (x y : ℕ) → x < 2 ^ 32 → y < 2 ^ 32 → ltZ (integerOf sign 32 x) (integerOf sign 32 y) ≡ less sign x y
 unfolding sLess
 less-is true x y hx hy = sym (sless-is x y hx hy)
 less-is false x y hx hy = refl
@@ -68,13 +68,13 @@ module _ (sign : Bool) (x y : ℕ) (hx : x < 2 ^ 32) (hy : y < 2 ^ 32) where
   pub smaller-is : cond (less sign x y) x y ≡ smaller sign x y
   unfolding smaller
   smaller-is =
-      rw (not-ltZ (numberOf sign 32 x) (numberOf sign 32 y), less-is sign y x hy hx)
+      rw (not-ltZ (integerOf sign 32 x) (integerOf sign 32 y), less-is sign y x hy hx)
       (order sign x y hx hy (λ l e g. cond l x y ≡ cond (not g) x y) refl (λ e. sym e) refl)
 
   pub greater-is : cond (less sign x y) y x ≡ greater sign x y
   unfolding greater
   greater-is =
-      rw (not-ltZ (numberOf sign 32 x) (numberOf sign 32 y), less-is sign y x hy hx)
+      rw (not-ltZ (integerOf sign 32 x) (integerOf sign 32 y), less-is sign y x hy hx)
       (order sign x y hx hy (λ l e g. cond l y x ≡ cond (not g) y x) refl (λ e. e) refl)
 
 -- ---- the integer tests
@@ -125,14 +125,14 @@ module _ (cs : List ℕ) (s : State) where
   boolOp-sem o p q = all .gives
     where
       all : Gives cs s (Truth p ∷ Truth q ∷ []) (boolOp o) (Truth (M.combined o p q))
-      all = truths _ (given refl) (truths _ (given refl) (given refl))
+      all = truths _ (code-gives refl) (truths _ (code-gives refl) (code-gives refl))
 
   -- the condition tests that ask for single flags
   ccFlags-sem : (t : ℕ) (z n c o : Bool) → Gives cs s (Truth z ∷ Truth n ∷ Truth c ∷ Truth o ∷ []) (ccFlags t) (Truth (flagTest t z n c o))
   unfolding ccFlags effectOf bareEffect cellEffect oneEffect negated two logic logicTruth withTruth valueAt
   ccFlags-sem t z n c o =
-      truths _ (given refl) (truths _ (given refl) (truths _ (given refl) (truths _ (given refl)
-      (truths _ (given refl) (truths _ (given refl) (truths _ (given refl) (truths _ (given refl) (given refl))))))))
+      truths _ (code-gives refl) (truths _ (code-gives refl) (truths _ (code-gives refl) (truths _ (code-gives refl)
+      (truths _ (code-gives refl) (truths _ (code-gives refl) (truths _ (code-gives refl) (truths _ (code-gives refl) (code-gives refl))))))))
 
   ccCase-sem : (t : ℕ) (z n c o : Bool)
       → sem cs (ccCase t) (Truth z ∷ Truth n ∷ Truth c ∷ Truth o ∷ Truth (xor n o) ∷ []) s ≡ ran s (Truth (M.condition t z n c o))
@@ -141,8 +141,8 @@ module _ (cs : List ℕ) (s : State) where
     where
       all : Gives cs s (Truth z ∷ Truth n ∷ Truth c ∷ Truth o ∷ Truth (xor n o) ∷ []) (ccCase t) (Truth (M.condition t z n c o))
       all =
-          truths _ (given refl) (truths _ (given refl) (truths _ (given refl) (truths _ (given refl) (truths _ (given refl)
-          (truths _ (given refl) (truths _ (given refl) (given (rw (ccFlags-sem t z n c o .gives) refl))))))))
+          truths _ (code-gives refl) (truths _ (code-gives refl) (truths _ (code-gives refl) (truths _ (code-gives refl) (truths _ (code-gives refl)
+          (truths _ (code-gives refl) (truths _ (code-gives refl) (code-gives (rw (ccFlags-sem t z n c o .gives) refl))))))))
 
   ccTest-sem : (t : ℕ) → sem cs (ccTest t) [] s ≡ ran s (Truth (M.condition t (flag s 0) (flag s 1) (flag s 2) (flag s 3)))
   unfolding ccTest flag effectOf cellEffect loaded two logic logicTruth withTruth valueAt
@@ -174,11 +174,11 @@ module _ (cs : List ℕ) (s : State) where
       → Gives cs s (Word x ∷ Word y ∷ []) (intCmp t sign) (Truth (cases t (less sign x y) (eqb x y) (less sign y x)))
   unfolding intCmp effectOf bareEffect two compared compareWord withWord valueAt
   intCmp-cases t sign x y =
-      truths _ (given refl)
-      (truths _ (given (lessThan-sem sign x y))
-      (truths _ (given refl)
-      (truths _ (given (lessThanEqual-sem sign x y))
-      (truths _ (given (greaterThan-sem sign x y)) (truths _ (given refl) (truths _ (given (greaterThanEqual-sem sign x y)) (given refl)))))))
+      truths _ (code-gives refl)
+      (truths _ (code-gives (lessThan-sem sign x y))
+      (truths _ (code-gives refl)
+      (truths _ (code-gives (lessThanEqual-sem sign x y))
+      (truths _ (code-gives (greaterThan-sem sign x y)) (truths _ (code-gives refl) (truths _ (code-gives (greaterThanEqual-sem sign x y)) (code-gives refl)))))))
 
   intCmp-sem : (t : ℕ) (sign : Bool) (x y : ℕ) → t < 8 → x < 2 ^ 32 → y < 2 ^ 32
       → sem cs (intCmp t sign) (Word x ∷ Word y ∷ []) s ≡ ran s (Truth (M.intTest t sign x y))
@@ -186,15 +186,15 @@ module _ (cs : List ℕ) (s : State) where
 
   -- ---- the smaller and the greater
 
-  pub minOf-sem : (sign : Bool) (x y : ℕ) → x < 2 ^ 32 → y < 2 ^ 32 → sem cs (minOf sign) (Word x ∷ Word y ∷ []) s ≡ ran s (Word (smaller sign x y))
-  unfolding minOf effectOf two binary binaryWord withWord valueAt sLess
-  minOf-sem true x y hx hy = rw (smaller-is true x y hx hy) refl
-  minOf-sem false x y hx hy = rw (smaller-is false x y hx hy) refl
+  pub minimum-sem : (sign : Bool) (x y : ℕ) → x < 2 ^ 32 → y < 2 ^ 32 → sem cs (minimum sign) (Word x ∷ Word y ∷ []) s ≡ ran s (Word (smaller sign x y))
+  unfolding minimum effectOf two binary binaryWord withWord valueAt sLess
+  minimum-sem true x y hx hy = rw (smaller-is true x y hx hy) refl
+  minimum-sem false x y hx hy = rw (smaller-is false x y hx hy) refl
 
-  pub maxOf-sem : (sign : Bool) (x y : ℕ) → x < 2 ^ 32 → y < 2 ^ 32 → sem cs (maxOf sign) (Word x ∷ Word y ∷ []) s ≡ ran s (Word (greater sign x y))
-  unfolding maxOf effectOf two binary binaryWord withWord valueAt sLess
-  maxOf-sem true x y hx hy = rw (greater-is true x y hx hy) refl
-  maxOf-sem false x y hx hy = rw (greater-is false x y hx hy) refl
+  pub maximum-sem : (sign : Bool) (x y : ℕ) → x < 2 ^ 32 → y < 2 ^ 32 → sem cs (maximum sign) (Word x ∷ Word y ∷ []) s ≡ ran s (Word (greater sign x y))
+  unfolding maximum effectOf two binary binaryWord withWord valueAt sLess
+  maximum-sem true x y hx hy = rw (greater-is true x y hx hy) refl
+  maximum-sem false x y hx hy = rw (greater-is false x y hx hy) refl
 
 -- ---- a test's truth stored
 
@@ -238,11 +238,11 @@ module _ (cs : List ℕ) (i : Record) (s : State) where
   pset-does w = rw (p-sem cs s i 12 15, p-sem cs s i 29 32, p-sem cs s i 39 42, boolOp-sem cs s, word-sem _ _ w) refl
 
   -- icmp tests c against 0
-  icmpOf-sem : (a b c : ℕ) → c < 2 ^ 32
-      → sem cs (icmpOf (insn i)) (Word a ∷ Word b ∷ Word c ∷ []) s
+  icmpWords-sem : (a b c : ℕ) → c < 2 ^ 32
+      → sem cs (icmpWords (insn i)) (Word a ∷ Word b ∷ Word c ∷ []) s
       ≡ ran (setReg s (rd i) (cond (M.intTest (bits i 49 3) (bit i 48) c 0) a b)) (Word (cond (M.intTest (bits i 49 3) (bit i 48) c 0) a b))
-  unfolding icmpOf effectOf valueAt T.bits T.bit
-  icmpOf-sem a b c h = rw (intCmp-sem cs s (bits i 49 3) (bit i 48) c 0 (bits-lt i 49 3) h (omega arith), select-is, set-sem cs s) refl
+  unfolding icmpWords effectOf valueAt T.bits T.bit
+  icmpWords-sem a b c h = rw (intCmp-sem cs s (bits i 49 3) (bit i 48) c 0 (bits-lt i 49 3) h (omega arith), select-is, set-sem cs s) refl
 
   module _ (h : missing cs i ≡ false) (w : Proper cs s) where
     tested-sem : sem cs (intCmp (bits i 49 3) (bit i 48)) (Word (reg s (ra i)) ∷ Word (operandB cs i s) ∷ []) s ≡ ran s (Truth (M.intTested cs i s))
@@ -263,8 +263,8 @@ module _ (cs : List ℕ) (i : Record) (s : State) where
           ra-sem cs s i,
           srcB-sem cs s i h,
           p-sem cs s i 39 42,
-          minOf-sem cs s (bit i 48) _ _ (reg-word cs s (ra i) w) (operand-word cs s i w),
-          maxOf-sem cs s (bit i 48) _ _ (reg-word cs s (ra i) w) (operand-word cs s i w),
+          minimum-sem cs s (bit i 48) _ _ (reg-word cs s (ra i) w) (operand-word cs s i w),
+          maximum-sem cs s (bit i 48) _ _ (reg-word cs s (ra i) w) (operand-word cs s i w),
           select-is,
           set-sem cs s,
         ) refl
@@ -272,7 +272,7 @@ module _ (cs : List ℕ) (i : Record) (s : State) where
     pub icmp-does : final (sem cs (icmp (insn i)) [] s) ≡ some (M.icmp cs i s)
     unfolding icmp icmpBc icmpSwaps valueAt T.bits T.bit
     icmp-does =
-        rw (ra-sem cs s i, srcBc-sem cs s i (M.opcode i 21312) (icmpOf (insn i)) (reg s (ra i)) h, icmpOf-sem _ _ _ (second-word cs s i (M.opcode i 21312) w)) refl
+        rw (ra-sem cs s i, srcBc-sem cs s i (M.opcode i 21312) (icmpWords (insn i)) (reg s (ra i)) h, icmpWords-sem _ _ _ (second-word cs s i (M.opcode i 21312) w)) refl
 
   module _ (h : missing cs i ≡ true) where
     compare-missing : (pair : Bool) → sem cs (icompare pair (insn i)) [] s ≡ halted NoConstant s
@@ -291,4 +291,4 @@ module _ (cs : List ℕ) (i : Record) (s : State) where
 
     pub icmp-missing : sem cs (icmp (insn i)) [] s ≡ halted NoConstant s
     unfolding icmp icmpBc icmpSwaps valueAt T.bits T.bit
-    icmp-missing = rw (ra-sem cs s i, srcBc-missing cs s i (M.opcode i 21312) (icmpOf (insn i)) (reg s (ra i)) h) refl
+    icmp-missing = rw (ra-sem cs s i, srcBc-missing cs s i (M.opcode i 21312) (icmpWords (insn i)) (reg s (ra i)) h) refl

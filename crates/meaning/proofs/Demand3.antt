@@ -13,34 +13,34 @@ use Rattle.evaluation.specs.State.{loaded}
 use Rattle.evaluation.specs.Machine.{evaluated}
 use Rattle.reach.specs.declared.cells.Cells.{Cells}
 use Rattle.reach.specs.Reach.{reached}
-use Rattle.reach.proofs.Isolation.{Agree, Starts, isolation, storedIn, kept}
+use Rattle.reach.proofs.Isolation.{Agree, Starts, isolation, storedIn, unchanged}
 use Rattle.translation.specs.declared.answer.Outcome.{Outcome}
 use Rattle.translation.specs.declared.answer.Outcome.the-variants.{Written, Refused}
 use Rattle.translation.specs.declared.answer.Refusal.{Refusal}
-use Rattle.translation.specs.Strip.{strip, insnOf, admits, admitted, written}
+use Rattle.translation.specs.Strip.{strip, insnOf, admits, admitted, lengthOf}
 use Rattle.translation.proofs.Shape.{Accepted, accepted as accepted-is}
-use Rattle.translation.specs.Turn.{stripsOf, Room, Given, answered, turn, inTurn, accepted}
+use Rattle.translation.specs.Turn.{runOf, Room, RecordAndMarks, turnDecision, turn, inTurn, accepted}
 use Rattle.meaning.proofs.Demand1.{refused-untouched}
 use Rattle.meaning.proofs.Means.{strips-shaped}
 
 -- ---- in turn
 
 -- what lies before the used bytes stays, then come the strips of the accepted records, then what the room held there
-pub record Filled (gs : List Given) (r : Room) : Type 0 where
+pub record Filled (gs : List RecordAndMarks) (r : Room) : Type 0 where
   pub admitted : Each (λ l. admits l ≡ true) (accepted gs r)
-  pub used : inTurn gs r .used ≡ r .used + length (stripsOf (accepted gs r))
+  pub used : inTurn gs r .used ≡ r .used + length (runOf (accepted gs r))
   pub fits : inTurn gs r .used ≤ length (r .bytes)
-  pub bytes : inTurn gs r .bytes ≡ take (r .used) (r .bytes) ++ (stripsOf (accepted gs r) ++ drop (inTurn gs r .used) (r .bytes))
+  pub bytes : inTurn gs r .bytes ≡ take (r .used) (r .bytes) ++ (runOf (accepted gs r) ++ drop (inTurn gs r .used) (r .bytes))
 
 -- a refused record changes nothing
-turn-refused : (g : Given) (r : Room) (f : Refusal) → answered g r .outcome ≡ Refused f → turn g r ≡ r
-unfolding turn written
+turn-refused : (g : RecordAndMarks) (r : Room) (f : Refusal) → turnDecision g r .outcome ≡ Refused f → turn g r ≡ r
+unfolding turn lengthOf
 turn-refused g r f e =
     let u : r .used + 0 ≡ r .used = omega arith in
     rw (e, refused-untouched (g .bytes) (g .marks) (drop (r .used) (r .bytes)) f e .1, take-append-drop (r .used) (r .bytes), u) refl
 
-module _ (g : Given) (r : Room) (h : r .used ≤ length (r .bytes)) (n : ℕ) (e : answered g r .outcome ≡ Written n) where
-  a : (admits (g .bytes) ≡ true) × Accepted (g .bytes) (g .marks) (drop (r .used) (r .bytes)) n (answered g r)
+module _ (g : RecordAndMarks) (r : Room) (h : r .used ≤ length (r .bytes)) (n : ℕ) (e : turnDecision g r .outcome ≡ Written n) where
+  a : (admits (g .bytes) ≡ true) × Accepted (g .bytes) (g .marks) (drop (r .used) (r .bytes)) n (turnDecision g r)
   a = accepted-is (g .bytes) (g .marks) (drop (r .used) (r .bytes)) n e
 
   -- what stands before the rest then: what stood there, and the strip
@@ -52,11 +52,11 @@ module _ (g : Given) (r : Room) (h : r .used ≤ length (r .bytes)) (n : ℕ) (e
   placed-length = rw (length-append (take (r .used) (r .bytes)) (strip (getD (g .bytes) 0 0) (insnOf (g .bytes))), length-take-le (r .used) (r .bytes) h, ← a .1 .size) refl
 
   turn-used : turn g r .used ≡ r .used + n
-  unfolding turn written
+  unfolding turn lengthOf
   turn-used = rw e refl
 
   turn-bytes : turn g r .bytes ≡ placed ++ drop (r .used + n) (r .bytes)
-  unfolding turn placed written
+  unfolding turn placed lengthOf
   turn-bytes =
       ap (λ (x : List ℕ). take (r .used) (r .bytes) ++ x) (a .1 .out ∙ ap (λ (x : List ℕ). strip (getD (g .bytes) 0 0) (insnOf (g .bytes)) ++ x) (drop-drop n (r .used) (r .bytes)))
       ∙ sym (append-assoc (take (r .used) (r .bytes)) (strip (getD (g .bytes) 0 0) (insnOf (g .bytes))) (drop (r .used + n) (r .bytes)))
@@ -82,13 +82,13 @@ module _ (g : Given) (r : Room) (h : r .used ≤ length (r .bytes)) (n : ℕ) (e
       ∙ drop-append-add placed (drop (r .used + n) (r .bytes)) y
       ∙ drop-drop y (r .used + n) (r .bytes))
 
-  filled-more : (gs : List Given) → Filled gs (turn g r) → Filled (g ∷ gs) r
-  unfolding accepted inTurn stripsOf placed
+  filled-more : (gs : List RecordAndMarks) → Filled gs (turn g r) → Filled (g ∷ gs) r
+  unfolding accepted inTurn runOf placed
   filled-more gs f =
       let ls = accepted gs (turn g r) in
       let k = inTurn gs (turn g r) .used in
       let s = strip (getD (g .bytes) 0 0) (insnOf (g .bytes)) in
-      let m = length-append s (stripsOf ls) in
+      let m = length-append s (runOf ls) in
       let z = a .1 .size in
       record {
         admitted = rw e (a .0, f .admitted);
@@ -96,12 +96,12 @@ module _ (g : Given) (r : Room) (h : r .used ≤ length (r .bytes)) (n : ℕ) (e
         fits = omega (arith, f .fits, turn-length);
         bytes =
             f .bytes
-            ∙ rw (e, turn-front, f .used, turn-rest (length (stripsOf ls)))
-            (append-assoc (take (r .used) (r .bytes)) s (stripsOf ls ++ drop (turn g r .used + length (stripsOf ls)) (r .bytes))
-            ∙ ap (λ (x : List ℕ). take (r .used) (r .bytes) ++ x) (sym (append-assoc s (stripsOf ls) (drop (turn g r .used + length (stripsOf ls)) (r .bytes)))));
+            ∙ rw (e, turn-front, f .used, turn-rest (length (runOf ls)))
+            (append-assoc (take (r .used) (r .bytes)) s (runOf ls ++ drop (turn g r .used + length (runOf ls)) (r .bytes))
+            ∙ ap (λ (x : List ℕ). take (r .used) (r .bytes) ++ x) (sym (append-assoc s (runOf ls) (drop (turn g r .used + length (runOf ls)) (r .bytes)))));
       }
 
-filled-refused : (g : Given) (gs : List Given) (r : Room) (f : Refusal) → answered g r .outcome ≡ Refused f → Filled gs r → Filled (g ∷ gs) r
+filled-refused : (g : RecordAndMarks) (gs : List RecordAndMarks) (r : Room) (f : Refusal) → turnDecision g r .outcome ≡ Refused f → Filled gs r → Filled (g ∷ gs) r
 unfolding accepted inTurn
 filled-refused g gs r f e w =
     let q = turn-refused g r f e in
@@ -115,59 +115,59 @@ filled-refused g gs r f e w =
       bytes =
           rw e
           (v .bytes
-          ∙ ap (λ (x : Room). take (x .used) (x .bytes) ++ (stripsOf (accepted gs (turn g r)) ++ drop (inTurn gs (turn g r) .used) (x .bytes))) q);
+          ∙ ap (λ (x : Room). take (x .used) (x .bytes) ++ (runOf (accepted gs (turn g r)) ++ drop (inTurn gs (turn g r) .used) (x .bytes))) q);
     }
 
-filled : (gs : List Given) (r : Room) → r .used ≤ length (r .bytes) → Filled gs r
-unfolding accepted inTurn stripsOf
+filled : (gs : List RecordAndMarks) (r : Room) → r .used ≤ length (r .bytes) → Filled gs r
+unfolding accepted inTurn runOf
 filled [] r h = record { admitted = tt; used = omega arith; fits = h; bytes = sym (take-append-drop (r .used) (r .bytes)) }
-filled (g ∷ gs) r h = go (answered g r .outcome) refl (filled gs r h) (λ n e. filled gs (turn g r) (turn-fits g r h n e))
+filled (g ∷ gs) r h = go (turnDecision g r .outcome) refl (filled gs r h) (λ n e. filled gs (turn g r) (turn-fits g r h n e))
   where
-    go : (o : Outcome) → answered g r .outcome ≡ o → Filled gs r → ((n : ℕ) → answered g r .outcome ≡ Written n → Filled gs (turn g r)) → Filled (g ∷ gs) r
+    go : (o : Outcome) → turnDecision g r .outcome ≡ o → Filled gs r → ((n : ℕ) → turnDecision g r .outcome ≡ Written n → Filled gs (turn g r)) → Filled (g ∷ gs) r
     go (Written n) e w ih = filled-more g r h n e gs (ih n e)
     go (Refused f) e w ih = filled-refused g gs r f e w
 
 -- ---- demand 3
 
-module _ (room : List ℕ) (gs : List Given) where
-  -- the room behind all of them, the accepted records, and the run that their strips are
+module _ (room : List ℕ) (gs : List RecordAndMarks) where
+  -- the room after all of them, the accepted records, and the run that their strips are
   abbrev start : Room
   start = record { bytes = room; used = 0 }
 
-  abbrev pub behind : Room
-  behind = inTurn gs start
+  abbrev pub filledRoom : Room
+  filledRoom = inTurn gs start
 
   abbrev pub records : List (List ℕ)
   records = accepted gs start
 
   abbrev pub run : List ℕ
-  run = take (behind .used) (behind .bytes)
+  run = take (filledRoom .used) (filledRoom .bytes)
 
   -- what demand 3 says, for every room and every list of records with any use marks
   pub record Demand3 : Type 0 where
-    -- the accepted records are admitted ones, and their strips stand in the room as one run, in order; behind it the room is as it was
+    -- the accepted records are admitted ones, and their strips stand in the room as one run, in that order; after it the room is as it was
     pub admitted : Each (λ l. admits l ≡ true) records
-    pub strips : run ≡ stripsOf records
-    pub stands : behind .bytes ≡ stripsOf records ++ drop (behind .used) room
+    pub strips : run ≡ runOf records
+    pub stands : filledRoom .bytes ≡ runOf records ++ drop (filledRoom .used) room
     -- that run passes the shape test
     pub shape : shapeOk run ≡ true
     -- starts that agree on the reach list, both accepted, agree at the end on the asked cells
     pub isolated : (asked : Cells) → length (asked .slots) ≡ 32 → (s t : State) (cs ds : List ℕ) → Starts run (reached run asked .cells) s cs t ds
         → Agree asked (evaluated run s cs .state) cs (evaluated run t ds .state) ds
     -- every evaluation, refused or not, leaves each cell that no strip stores as it was
-    pub kept : (s : State) (cs : List ℕ) (k n : ℕ) → 4 ≤ k → k ≤ 6 → storedIn run k n ≡ false → loaded (evaluated run s cs .state) k n ≡ loaded s k n
+    pub unchanged : (s : State) (cs : List ℕ) (k n : ℕ) → 4 ≤ k → k ≤ 6 → storedIn run k n ≡ false → loaded (evaluated run s cs .state) k n ≡ loaded s k n
 
-pub demand3 : (room : List ℕ) (gs : List Given) → Demand3 room gs
+pub demand3 : (room : List ℕ) (gs : List RecordAndMarks) → Demand3 room gs
 demand3 room gs =
     let r : Room = record { bytes = room; used = 0 } in
     let w = filled gs r (omega arith) in
-    let u : inTurn gs r .used ≡ length (stripsOf (accepted gs r)) = omega (arith, w .used) in
-    let t : take (inTurn gs r .used) (inTurn gs r .bytes) ≡ stripsOf (accepted gs r) = rw (w .bytes) (take-at (stripsOf (accepted gs r)) (drop (inTurn gs r .used) room) (inTurn gs r .used) (sym u)) in
+    let u : inTurn gs r .used ≡ length (runOf (accepted gs r)) = omega (arith, w .used) in
+    let t : take (inTurn gs r .used) (inTurn gs r .bytes) ≡ runOf (accepted gs r) = rw (w .bytes) (take-at (runOf (accepted gs r)) (drop (inTurn gs r .used) room) (inTurn gs r .used) (sym u)) in
     record {
       admitted = w .admitted;
       strips = t;
       stands = w .bytes;
       shape = rw t (strips-shaped (accepted gs r));
       isolated = λ asked h s t′ cs ds. isolation (run room gs) asked h s t′ cs ds;
-      kept = λ s cs k n. kept (run room gs) s cs k n;
+      unchanged = λ s cs k n. unchanged (run room gs) s cs k n;
     }

@@ -14,7 +14,7 @@ use Rattle.evaluation.specs.declared.machine.Refusal.the-variants.{NoConstant}
 use Rattle.translation.specs.Insn as T
 use Rattle.meaning.specs.Record.{Record}
 use Rattle.meaning.proofs.Reading.{insn}
-use Rattle.translation.specs.Arms.{armOf, sumArm, bitArm, wordArm}
+use Rattle.translation.specs.Arms.{armOf}
 use Rattle.translation.specs.Strip.{known, byteThree}
 use Rattle.meaning.specs.Meaning.{meant, mayRead, reads, lent}
 use Rattle.translation.proofs.Sem.{halted, sem}
@@ -84,7 +84,7 @@ module _ (cs : List ℕ) (i : Record) (s : State) where
   Misses k = reads (of k) && not (lent cs i) ≡ true → sem cs (armOf k (insn i)) [] s ≡ halted NoConstant s
 
   arms-do : Each Does kinds
-  unfolding Does armOf sumArm bitArm wordArm meant mayRead reads T.bits T.bit
+  unfolding Does armOf meant mayRead reads T.bits T.bit
   arms-do =
       also (λ w h e. mov-does cs (of 1) s (as-b e))
       (also (λ w h e. mov32i-does cs (of 2) s)
@@ -118,7 +118,7 @@ module _ (cs : List ℕ) (i : Record) (s : State) where
       (also (λ w h e. lea-does cs (of 30) s e w) tt)))))))))))))))))))))))))))))
 
   arms-miss : Each Misses kinds
-  unfolding Misses armOf sumArm bitArm wordArm mayRead reads T.bits T.bit
+  unfolding Misses armOf mayRead reads T.bits T.bit
   arms-miss =
       also (λ e. mov-missing cs (of 1) s (as-b e))
       (also reads-none

@@ -16,9 +16,9 @@ use Rattle.evaluation.specs.Machine.{fourEffect, valueAt, effectOf}
 use Rattle.translation.specs.Insn as T
 use Rattle.meaning.specs.Record.{Record, bit, rd, ra}
 use Rattle.meaning.proofs.Reading.{insn}
-use Rattle.translation.specs.Arms.{insertField, extractField, useField, fieldOf, bfe, bfiOf, bfiSwaps, bfiBc, bfi}
+use Rattle.translation.specs.Arms.{useField, fieldAtB, bfe, bfiWords, bfiSwaps, bfiBc, bfi}
 use Rattle.meaning.specs.Number.{extracted, inserted}
-use Rattle.meaning.specs.Operand.{reg, setReg, operandB, firstOf, secondOf}
+use Rattle.meaning.specs.Operand.{reg, setReg, operandB, wordB, wordC}
 use Rattle.meaning.specs.Meaning as M
 use Rattle.translation.proofs.Sem.{ran, halted, sem}
 use Rattle.translation.proofs.Stays.{Proper}
@@ -46,15 +46,15 @@ module _ (cs : List ℕ) (s : State) where
   -- bfi inserts into c, bfe extracts from a
   useField-sem : (insert sign : Bool) (c a p n : ℕ) → c < 2 ^ 32 → p + n ≤ 32
       → sem cs (useField insert sign) (Word c ∷ Word a ∷ Word p ∷ Word n ∷ []) s ≡ ran s (Word (cond insert (inserted c a p n) (extracted sign a p n)))
-  unfolding useField insertField extractField effectOf fourEffect insertedValue withWord valueAt
+  unfolding useField effectOf fourEffect insertedValue withWord valueAt
   useField-sem true sign c a p n h l = rw (insert-is c a p n h l) refl
   useField-sem false sign c a p n h l = rw (extract-sem cs s sign a p n l) refl
 
-  fieldOf-sem : (insert sign : Bool) (c a b : ℕ) → c < 2 ^ 32
-      → sem cs (fieldOf insert sign) (Word c ∷ Word a ∷ Word b ∷ []) s
+  fieldAtB-sem : (insert sign : Bool) (c a b : ℕ) → c < 2 ^ 32
+      → sem cs (fieldAtB insert sign) (Word c ∷ Word a ∷ Word b ∷ []) s
       ≡ ran s (Word (cond insert (inserted c a (M.position b) (M.width b)) (extracted sign a (M.position b) (M.width b))))
-  unfolding fieldOf effectOf two binary binaryWord withWord valueAt
-  fieldOf-sem insert sign c a b h =
+  unfolding fieldAtB effectOf two binary binaryWord withWord valueAt
+  fieldAtB-sem insert sign c a b h =
       rw (and-mask b 8, and-mask (b / 256) 8, umin-is (b % 256) 32, room-is b, umin-is (b / 256 % 256) (32 - M.position b))
       (rw (useField-sem insert sign c a (M.position b) (M.width b) h (fits b)) refl)
 
@@ -67,24 +67,24 @@ module _ (cs : List ℕ) (i : Record) (s : State) where
       let ha = reg-word cs s (ra i) w in
       let a = M.reverseIf (bit i 40) (reg s (ra i)) in
       rw (ra-sem cs s i, srcB-sem cs s i h, reverseIf-sem cs s (bit i 40) (reg s (ra i)) ha)
-      (rw (fieldOf-sem cs s false (bit i 48) a a (operandB cs i s) (reverseIf-word (bit i 40) (reg s (ra i)) ha), set-sem cs s) refl)
+      (rw (fieldAtB-sem cs s false (bit i 48) a a (operandB cs i s) (reverseIf-word (bit i 40) (reg s (ra i)) ha), set-sem cs s) refl)
 
   pub bfe-missing : missing cs i ≡ true → sem cs (bfe (insn i)) [] s ≡ halted NoConstant s
   unfolding bfe valueAt T.bits T.bit
   bfe-missing h = rw (ra-sem cs s i, srcB-missing cs s i h) refl
 
-  bfiOf-sem : (a b c : ℕ) → c < 2 ^ 32
-      → sem cs (bfiOf (insn i)) (Word a ∷ Word b ∷ Word c ∷ []) s ≡ ran (setReg s (rd i) (inserted c a (M.position b) (M.width b))) (Word (inserted c a (M.position b) (M.width b)))
-  unfolding bfiOf valueAt T.bits T.bit
-  bfiOf-sem a b c h = rw (fieldOf-sem cs s true false c a b h, set-sem cs s) refl
+  bfiWords-sem : (a b c : ℕ) → c < 2 ^ 32
+      → sem cs (bfiWords (insn i)) (Word a ∷ Word b ∷ Word c ∷ []) s ≡ ran (setReg s (rd i) (inserted c a (M.position b) (M.width b))) (Word (inserted c a (M.position b) (M.width b)))
+  unfolding bfiWords valueAt T.bits T.bit
+  bfiWords-sem a b c h = rw (fieldAtB-sem cs s true false c a b h, set-sem cs s) refl
 
   pub bfi-does : missing cs i ≡ false → Proper cs s → final (sem cs (bfi (insn i)) [] s) ≡ some (M.bfi cs i s)
   unfolding bfi bfiBc bfiSwaps valueAt T.bits T.bit
   bfi-does h w =
       let swap = M.opcode i 21488 in
-      rw (ra-sem cs s i, srcBc-sem cs s i swap (bfiOf (insn i)) (reg s (ra i)) h)
-      (rw (bfiOf-sem (reg s (ra i)) (firstOf cs i swap s) (secondOf cs i swap s) (second-word cs s i swap w)) refl)
+      rw (ra-sem cs s i, srcBc-sem cs s i swap (bfiWords (insn i)) (reg s (ra i)) h)
+      (rw (bfiWords-sem (reg s (ra i)) (wordB cs i swap s) (wordC cs i swap s) (second-word cs s i swap w)) refl)
 
   pub bfi-missing : missing cs i ≡ true → sem cs (bfi (insn i)) [] s ≡ halted NoConstant s
   unfolding bfi bfiBc bfiSwaps valueAt T.bits T.bit
-  bfi-missing h = rw (ra-sem cs s i, srcBc-missing cs s i (M.opcode i 21488) (bfiOf (insn i)) (reg s (ra i)) h) refl
+  bfi-missing h = rw (ra-sem cs s i, srcBc-missing cs s i (M.opcode i 21488) (bfiWords (insn i)) (reg s (ra i)) h) refl

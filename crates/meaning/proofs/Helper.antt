@@ -10,7 +10,7 @@ use lib.ListN.{length, getD, set as replace}
 use lib.Bits.{bitAnd, and-mask}
 use borrow.Author.Tests.{lt-ltb, le-ltb, eqb-true, eqb-false, not-true, not-false}
 use Rattle.strip.proofs.Tests.{and-left, and-right}
-use Rattle.strip.specs.declared.reader.Entry.the-variants as Of
+use Rattle.strip.specs.declared.reader.Entry.the-variants as Entry
 use Rattle.evaluation.specs.declared.value.Value.{Value}
 use Rattle.evaluation.specs.declared.value.Value.the-variants.{Word, Truth}
 use Rattle.evaluation.specs.declared.state.State.{State}
@@ -27,10 +27,10 @@ use Rattle.translation.specs.Helpers.{r, set, predicate, p, setp, b2u, cbufAt, 
 use Rattle.translation.specs.Arms.{noteUnless}
 use Rattle.meaning.proofs.Reading.{bits-lt, simm20-lt, simm20-same}
 use Rattle.meaning.specs.Number.{complement}
-use Rattle.meaning.specs.Operand.{reg, setReg, pred, setPred, setFlags, setZS, predIf, constantPlace, constant, operandB, firstOf, secondOf}
+use Rattle.meaning.specs.Operand.{reg, setReg, pred, setPred, setFlags, setZS, predIf, constantPlace, constant, operandB, wordB, wordC}
 use Rattle.meaning.specs.Meaning.{complementIf, negateIf, lent}
 use Rattle.translation.proofs.Stays.{Proper}
-use Rattle.translation.proofs.Evaluated.{predicateOf}
+use Rattle.translation.proofs.Evaluated.{predicateAt}
 use Rattle.translation.proofs.Evaluated as Guard
 use Rattle.translation.proofs.Sem.{Ran, ran, halted, followed, sem}
 use Rattle.meaning.proofs.Order.{negative-is}
@@ -71,8 +71,8 @@ module _ (cs : List ℕ) (s : State) where
       chosen-word (eqb (i .form) 0) _ _ (reg-word (rb i) w) (chosen-word (eqb (i .form) 1) (constant cs i) (simm20 i) (w .constants (constantPlace i)) (simm20-lt i))
 
   -- c, a register or a constant
-  pub second-word : (i : Record) (swap : Bool) → Proper cs s → secondOf cs i swap s < 2 ^ 32
-  unfolding secondOf
+  pub second-word : (i : Record) (swap : Bool) → Proper cs s → wordC cs i swap s < 2 ^ 32
+  unfolding wordC
   second-word i swap w = chosen-word (eqb (i .form) 1 && swap) (constant cs i) (reg s (rc i)) (w .constants (constantPlace i)) (reg-word (rc i) w)
 
 -- ---- code that gives a value and stores nothing
@@ -82,17 +82,17 @@ pub record Gives (cs : List ℕ) (s : State) (vs : List Value) (c : Code) (v : V
   pub gives : sem cs c vs s ≡ ran s v
 
 module _ {cs : List ℕ} {s : State} {vs : List Value} where
-  pub given : {c : Code} {v : Value} → sem cs c vs s ≡ ran s v → Gives cs s vs c v
-  given e = record { gives = e }
+  pub code-gives : {c : Code} {v : Value} → sem cs c vs s ≡ ran s v → Gives cs s vs c v
+  code-gives e = record { gives = e }
 
   -- a branch on a mode bit between two truths, or two words
   pub truths : (b : Bool) {c d : Code} {p q : Bool} → Gives cs s vs c (Truth p) → Gives cs s vs d (Truth q) → Gives cs s vs (ite b c d) (Truth (cond b p q))
-  truths true g h = given (g .gives)
-  truths false g h = given (h .gives)
+  truths true g h = code-gives (g .gives)
+  truths false g h = code-gives (h .gives)
 
   pub words : (b : Bool) {c d : Code} {x y : ℕ} → Gives cs s vs c (Word x) → Gives cs s vs d (Word y) → Gives cs s vs (ite b c d) (Word (cond b x y))
-  words true g h = given (g .gives)
-  words false g h = given (h .gives)
+  words true g h = code-gives (g .gives)
+  words false g h = code-gives (h .gives)
 
 -- a select between words
 pub select-is : (t : Bool) (x y : ℕ) → three 90 (Truth t) (Word x) (Word y) ≡ Word (cond t x y)
@@ -108,7 +108,7 @@ module _ (cs : List ℕ) (s : State) where
   r-sem k h = go (eqb k 255) refl
     where
       go : (b : Bool) → eqb k 255 ≡ b
-          → sem cs (ite b (op (Of.Word 0) (ret 0)) (op (Of.Cell 4 k) (ret 0))) [] s ≡ ran s (Word (cond b 0 (getD (s .regs) k 0)))
+          → sem cs (ite b (op (Entry.Word 0) (ret 0)) (op (Entry.Cell 4 k) (ret 0))) [] s ≡ ran s (Word (cond b 0 (getD (s .regs) k 0)))
       go true e = refl
       go false e = let d = eqb-false k 255 e in rw (lt-ltb k 255 (omega arith)) refl
 
@@ -125,25 +125,25 @@ module _ (cs : List ℕ) (s : State) where
   unfolding set setReg effectOf storing storingWord withWord storedReg valueAt
   set-sem k w = go (eqb k 255)
     where
-      go : (b : Bool) → sem cs (ite b (ret 0) (act (Of.Store 7 k 0) (ret 0))) (Word w ∷ []) s
+      go : (b : Bool) → sem cs (ite b (ret 0) (act (Entry.Store 7 k 0) (ret 0))) (Word w ∷ []) s
           ≡ ran (cond b s (record { regs = replace (s .regs) k w; preds = s .preds; flags = s .flags })) (Word w)
       go true = refl
       go false = refl
 
   pub predicate-sem : (k : ℕ) → k < 8 → sem cs (predicate k) [] s ≡ ran s (Truth (pred s k))
-  unfolding pred predicateOf
+  unfolding pred predicateAt
   predicate-sem = Guard.predicate-sem cs s
 
   -- the predicate that the three bits from k on name, negated by bit n
   pub p-sem : (i : Record) (k n : ℕ) → sem cs (p (bits i k 3) (bit i n)) [] s ≡ ran s (Truth (predIf s (bits i k 3) (bit i n)))
-  unfolding pred predicateOf
+  unfolding pred predicateAt
   p-sem i k n = Guard.p-sem cs s (bits i k 3) (bit i n) (bits-lt i k 3)
 
   pub setp-sem : (k : ℕ) (t : Bool) → sem cs (setp k) (Truth t ∷ []) s ≡ ran (setPred s k t) (Truth t)
   unfolding setp setPred effectOf storing storingTruth withTruth storedPred valueAt
   setp-sem k t = go (eqb k 7)
     where
-      go : (b : Bool) → sem cs (ite b (ret 0) (act (Of.Store 8 k 0) (ret 0))) (Truth t ∷ []) s
+      go : (b : Bool) → sem cs (ite b (ret 0) (act (Entry.Store 8 k 0) (ret 0))) (Truth t ∷ []) s
           ≡ ran (cond b s (record { regs = s .regs; preds = replace (s .preds) k t; flags = s .flags })) (Truth t)
       go true = refl
       go false = refl
@@ -182,7 +182,7 @@ module _ (cs : List ℕ) (s : State) where
     srcB-sem h = go (eqb (i .form) 0) (eqb (i .form) 1) (lent cs i) refl h
       where
         go : (a b c : Bool) → lent cs i ≡ c → b && not c ≡ false
-            → sem cs (ite a (r (rb i)) (ite b (cbufImm (constantSlot i) (constantWord i)) (op (Of.Word (T.simm20 (insn i))) (ret 0)))) [] s
+            → sem cs (ite a (r (rb i)) (ite b (cbufImm (constantSlot i) (constantWord i)) (op (Entry.Word (T.simm20 (insn i))) (ret 0)))) [] s
             ≡ ran s (Word (cond a (reg s (rb i)) (cond b (constant cs i) (simm20 i))))
         go true b c e h = rb-sem i
         go false true true e h = constant-sem e
@@ -194,7 +194,7 @@ module _ (cs : List ℕ) (s : State) where
     srcB-missing h = go (i .form) refl h
       where
         go : (f : ℕ) → i .form ≡ f → eqb f 1 && not (lent cs i) ≡ true
-            → sem cs (ite (eqb f 0) (r (rb i)) (ite (eqb f 1) (cbufImm (constantSlot i) (constantWord i)) (op (Of.Word (T.simm20 (insn i))) (ret 0)))) [] s ≡ halted NoConstant s
+            → sem cs (ite (eqb f 0) (r (rb i)) (ite (eqb f 1) (cbufImm (constantSlot i) (constantWord i)) (op (Entry.Word (T.simm20 (insn i))) (ret 0)))) [] s ≡ halted NoConstant s
         go f q h = rw (eqb-true f 1 (and-left (eqb f 1) _ h)) (constant-missing (not-true (lent cs i) (and-right (eqb f 1) _ h)))
 
     -- b and c, and what follows with a, b and c
@@ -206,8 +206,8 @@ module _ (cs : List ℕ) (s : State) where
           (call (srcB (insn i)) [] (call (r (rc i)) [] (call k (0 ∷ 1 ∷ 2 ∷ []) (ret 3))))
 
       pub srcBc-sem : missing cs i ≡ false
-          → sem cs (srcBc (insn i) swap k) (Word a ∷ []) s ≡ followed (sem cs k (Word a ∷ Word (firstOf cs i swap s) ∷ Word (secondOf cs i swap s) ∷ []) s) (λ t v. ran t v)
-      unfolding srcBc firstOf secondOf valueAt T.bits T.bit
+          → sem cs (srcBc (insn i) swap k) (Word a ∷ []) s ≡ followed (sem cs k (Word a ∷ Word (wordB cs i swap s) ∷ Word (wordC cs i swap s) ∷ []) s) (λ t v. ran t v)
+      unfolding srcBc wordB wordC valueAt T.bits T.bit
       srcBc-sem h = go (eqb (i .form) 1 && swap) refl
         where
           go : (b : Bool) → eqb (i .form) 1 && swap ≡ b

@@ -21,21 +21,21 @@ use Rattle.translation.specs.declared.answer.Translated.{Translated}
 use Rattle.translation.specs.declared.answer.Outcome.{Outcome}
 use Rattle.translation.specs.declared.answer.Outcome.the-variants.{Written, Refused}
 use Rattle.translation.specs.declared.answer.Refusal.{Refusal}
-use Rattle.translation.specs.declared.answer.Refusal.the-variants.{BadLength, UnknownKind, UnknownForm, LaneMov, ByteThree, NoRoom}
+use Rattle.translation.specs.declared.answer.Refusal.the-variants.{BadLength, UnknownKind, UnknownForm, SystemValueMov, ByteThree, NoRoom}
 use Rattle.translation.specs.Insn as T
-use Rattle.translation.specs.Strip.{insnOf, known, laneMov, byteThree, admits, refusalNumber, numberOf as outcomeNumber, Decision, refused, admitted, fitted, decision, answerOf, translation}
-use Rattle.translation.specs.Whole.{answered as translated}
+use Rattle.translation.specs.Strip.{insnOf, known, systemValueMov, byteThree, admits, refusalNumber, numberOf as outcomeNumber, Decision, refused, admitted, fitted, decision, answerOf, translation}
+use Rattle.translation.specs.Whole.{decisionOf as translated}
 use Rattle.translation.proofs.Stays.{Proper}
 use Rattle.translation.proofs.Decided.{decided}
 use Rattle.translation.proofs.Shape.{accepted, accepted-strip}
 use Rattle.translation.proofs.Whole.{whole}
 use Rattle.meaning.specs.Record.{Record, recordOf}
-use Rattle.meaning.specs.Interpret.{refusalOf, refusal, unlent, answered, interpretation}
+use Rattle.meaning.specs.Interpret.{refusalOf, refusal, unlent, returns, interpretation}
 use Rattle.meaning.specs.Meaning.{meaning}
 use Rattle.translation.specs.Turn.{stripAt}
 use Rattle.meaning.proofs.Order.{not-leb}
 use Rattle.meaning.proofs.Reading.{insn, kind-same, insn-same}
-use Rattle.meaning.proofs.Means.{answer, record-means}
+use Rattle.meaning.proofs.Means.{recordAnswer, record-means}
 
 -- ---- the refusals of a record are the translator's
 
@@ -47,25 +47,25 @@ turned : (b : Bool) (x y : ℕ) → cond b x y ≡ cond (not b) y x
 turned true x y = refl
 turned false x y = refl
 
-refusal-of : (i : Record) → refusalOf i ≡ tests true (known (i .kind)) (ltb 2 (i .form)) (laneMov (i .kind) (insn i)) (byteThree (i .kind) (insn i))
-unfolding refusalOf known laneMov byteThree T.bits
+refusal-of : (i : Record) → refusalOf i ≡ tests true (known (i .kind)) (ltb 2 (i .form)) (systemValueMov (i .kind) (insn i)) (byteThree (i .kind) (insn i))
+unfolding refusalOf known systemValueMov byteThree T.bits
 refusal-of i = rw (← not-leb (i .form) 2, turned (leb (i .form) 2)) refl
 
-refusal-is : (l : List ℕ) → refusal l ≡ tests (eqb (length l) 18) (known (getD l 0 0)) (ltb 2 (insnOf l .form)) (laneMov (getD l 0 0) (insnOf l)) (byteThree (getD l 0 0) (insnOf l))
+refusal-is : (l : List ℕ) → refusal l ≡ tests (eqb (length l) 18) (known (getD l 0 0)) (ltb 2 (insnOf l .form)) (systemValueMov (getD l 0 0) (insnOf l)) (byteThree (getD l 0 0) (insnOf l))
 unfolding refusal
 refusal-is l =
     rw (refusal-of (recordOf l), kind-same l)
-    (ap (λ (x : T.Insn). tests (eqb (length l) 18) (known (getD l 0 0)) (ltb 2 (x .form)) (laneMov (getD l 0 0) x) (byteThree (getD l 0 0) x)) (insn-same l))
+    (ap (λ (x : T.Insn). tests (eqb (length l) 18) (known (getD l 0 0)) (ltb 2 (x .form)) (systemValueMov (getD l 0 0) x) (byteThree (getD l 0 0) x)) (insn-same l))
 
 -- in a room of 255 bytes or more no strip is too long, so the translator's number is the record's
 pub number-is : (l m out : List ℕ) → 255 ≤ length out → outcomeNumber (decision l m out .outcome) ≡ refusal l
 unfolding decision admitted fitted outcomeNumber refusalNumber
 number-is l m out h =
     rw (refusal-is l)
-    (go (eqb (length l) 18) (known (getD l 0 0)) (ltb 2 (insnOf l .form)) (laneMov (getD l 0 0) (insnOf l)) (byteThree (getD l 0 0) (insnOf l)))
+    (go (eqb (length l) 18) (known (getD l 0 0)) (ltb 2 (insnOf l .form)) (systemValueMov (getD l 0 0) (insnOf l)) (byteThree (getD l 0 0) (insnOf l)))
   where
     go : (a b c d e : Bool)
-        → outcomeNumber (cond a (cond b (cond c (refused UnknownForm m out) (cond d (refused LaneMov m out) (cond e (refused ByteThree m out) (fitted (getD l 0 0) (insnOf l) m out)))) (refused UnknownKind m out)) (refused BadLength m out) .outcome)
+        → outcomeNumber (cond a (cond b (cond c (refused UnknownForm m out) (cond d (refused SystemValueMov m out) (cond e (refused ByteThree m out) (fitted (getD l 0 0) (insnOf l) m out)))) (refused UnknownKind m out)) (refused BadLength m out) .outcome)
         ≡ tests a b c d e
     go false b c d e = refl
     go true false c d e = refl
@@ -77,30 +77,30 @@ number-is l m out h =
 -- ---- the answer
 
 module _ (l : List ℕ) (s : State) (ks : List ℕ) where
-  refused-with : (f : Refusal) → refusalNumber f ≡ refusal l → answered (refusalNumber f) s ≡ interpretation l s ks
+  refused-with : (f : Refusal) → refusalNumber f ≡ refusal l → returns (refusalNumber f) s ≡ interpretation l s ks
   unfolding interpretation refusalNumber
   refused-with BadLength e = rw (← e) refl
   refused-with UnknownKind e = rw (← e) refl
   refused-with UnknownForm e = rw (← e) refl
-  refused-with LaneMov e = rw (← e) refl
+  refused-with SystemValueMov e = rw (← e) refl
   refused-with ByteThree e = rw (← e) refl
   refused-with NoRoom e = rw (← e) refl
 
   evaluated-with : Proper ks s → admits l ≡ true → 0 ≡ refusal l
-      → answered (evaluation (stripAt l) s ks .number) (evaluation (stripAt l) s ks .state) ≡ interpretation l s ks
-  unfolding interpretation answer numberOf evaluationNumber
+      → returns (evaluation (stripAt l) s ks .number) (evaluation (stripAt l) s ks .state) ≡ interpretation l s ks
+  unfolding interpretation recordAnswer numberOf evaluationNumber
   evaluated-with w h e = rw (← e, record-means ks l s w h) (go (unlent ks (recordOf l) s))
     where
       go : (b : Bool)
-          → answered (numberOf (cond b (ends (EvaluationRefused NoConstant) s) (ends Done (meaning ks (recordOf l) s)) .outcome)) (cond b (ends (EvaluationRefused NoConstant) s) (ends Done (meaning ks (recordOf l) s)) .state)
-          ≡ cond b (answered 9 s) (answered 0 (meaning ks (recordOf l) s))
+          → returns (numberOf (cond b (ends (EvaluationRefused NoConstant) s) (ends Done (meaning ks (recordOf l) s)) .outcome)) (cond b (ends (EvaluationRefused NoConstant) s) (ends Done (meaning ks (recordOf l) s)) .state)
+          ≡ cond b (returns 9 s) (returns 0 (meaning ks (recordOf l) s))
       go true = refl
       go false = refl
 
 -- what the code learns of an evaluation
 pub evaluated-told : (e : Evaluated) (o : EvaluationOutcome) (run : List ℕ) (s : State) (ks : List ℕ) → e .outcome ≡ o → evaluationAnswer e ≡ evaluation run s ks
-    → answered (numberOf o) (e .state) ≡ answered (evaluation run s ks .number) (evaluation run s ks .state)
-evaluated-told e o run s ks q h = ap (λ (x : EvaluationOutcome). answered (numberOf x) (e .state)) (sym q) ∙ ap (λ (a : EvaluationAnswer). answered (a .number) (a .state)) h
+    → returns (numberOf o) (e .state) ≡ returns (evaluation run s ks .number) (evaluation run s ks .state)
+evaluated-told e o run s ks q h = ap (λ (x : EvaluationOutcome). returns (numberOf x) (e .state)) (sym q) ∙ ap (λ (a : EvaluationAnswer). returns (a .number) (a .state)) h
 
 -- and of a translation into a room of 256 bytes
 module _ (l m out out′ : List ℕ) (t : Translated) (h : length out ≡ 256) (h′ : answerOf (translated t out′) ≡ translation l m out) where
@@ -119,13 +119,13 @@ module _ (l m out out′ : List ℕ) (t : Translated) (h : length out ≡ 256) (
   written-strip : (n : ℕ) → t .outcome ≡ Written n → take n out′ ≡ stripAt l
   written-strip n q = ap (λ (a : Decision). take n (a .out)) e ∙ accepted-strip l m out n (outcome-is (Written n) q)
 
-  pub refused-interpreted : (s : State) (ks : List ℕ) (f : Refusal) → t .outcome ≡ Refused f → answered (refusalNumber f) s ≡ interpretation l s ks
+  pub refused-interpreted : (s : State) (ks : List ℕ) (f : Refusal) → t .outcome ≡ Refused f → returns (refusalNumber f) s ≡ interpretation l s ks
   unfolding outcomeNumber
   refused-interpreted s ks f q = refused-with l s ks f (number-told (Refused f) q)
 
   -- the run is the room's part from 0 to n
   pub written-interpreted : (s : State) (ks : List ℕ) → Proper ks s → (n : ℕ) → t .outcome ≡ Written n
-      → answered (evaluation (take (n - 0) out′) s ks .number) (evaluation (take (n - 0) out′) s ks .state) ≡ interpretation l s ks
+      → returns (evaluation (take (n - 0) out′) s ks .number) (evaluation (take (n - 0) out′) s ks .state) ≡ interpretation l s ks
   unfolding outcomeNumber
   written-interpreted s ks w n q =
       let z : n - 0 ≡ n = omega arith in

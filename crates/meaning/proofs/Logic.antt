@@ -25,7 +25,7 @@ use Rattle.meaning.specs.Operand.{reg, setPred, operandB}
 use Rattle.meaning.specs.Meaning as M
 use Rattle.translation.proofs.Sem.{ran, halted, sem}
 use Rattle.translation.proofs.Stays.{Proper}
-use Rattle.meaning.proofs.Helper.{reg-word, operand-word, set-sem, setp-sem, srcB-sem, srcB-missing, missing, final, setCcIf-sem, inot-sem, ra-sem, rc-sem, complement-word, Gives, given, words}
+use Rattle.meaning.proofs.Helper.{reg-word, operand-word, set-sem, setp-sem, srcB-sem, srcB-missing, missing, final, setCcIf-sem, inot-sem, ra-sem, rc-sem, complement-word, Gives, code-gives, words}
 use Rattle.meaning.proofs.Digits.{from-lt, from-bits, bit-none, bit-and, bit-or, bit-xor, bit-not, digit-is}
 
 -- ---- two words
@@ -59,7 +59,7 @@ module _ (cs : List ℕ) (s : State) where
   lopWord-sem o x y h k = all .gives
     where
       all : Gives cs s (Word x ∷ Word y ∷ []) (A.lopWord o) (Word (M.bitwise o x y))
-      all = words _ (given (rw (and-is x y h) refl)) (words _ (given (rw (or-is x y h k) refl)) (words _ (given (rw (xor-is x y h k) refl)) (given refl)))
+      all = words _ (code-gives (rw (and-is x y h) refl)) (words _ (code-gives (rw (or-is x y h k) refl)) (words _ (code-gives (rw (xor-is x y h k) refl)) (code-gives refl)))
 
   -- the predicate: of the result and zero
   abbrev testOf : ℕ → ℕ → Bool

@@ -10,7 +10,7 @@ use lib.ListN.{length, getD}
 use borrow.Author.Tests.{not-true}
 use Rattle.strip.specs.declared.reader.Entry.{Entry}
 use Rattle.strip.specs.Entry.{Formed}
-use Rattle.strip.specs.Shape.{all, ended, stripOk, shapeOk, stripBytes, runBytes}
+use Rattle.strip.specs.Shape.{all, endsOnce, stripOk, shapeOk, stripBytes, runBytes}
 use Rattle.strip.proofs.Tests.{and-left, and-right}
 use Rattle.strip.proofs.Run.{Each, Strip, strips-run, strips-shape}
 use Rattle.evaluation.specs.declared.state.State.{State}
@@ -18,22 +18,22 @@ use Rattle.evaluation.specs.declared.machine.Outcome.{Outcome}
 use Rattle.evaluation.specs.declared.machine.Outcome.the-variants.{Done, Refused}
 use Rattle.evaluation.specs.declared.machine.Refusal.the-variants.{NoConstant}
 use Rattle.evaluation.specs.declared.machine.Evaluated.{Evaluated}
-use Rattle.evaluation.specs.Machine.{isDone, begun, ends, onward, entriesFrom, stripsFrom, settled, evaluated, valueAt}
+use Rattle.evaluation.specs.Machine.{isDone, begun, ends, onward, entriesFrom, stripsFrom, restored, evaluated, valueAt}
 use Rattle.evaluation.proofs.Flat.{evaluated-strips}
 use Rattle.evaluation.proofs.Words.{Sized, undefined-sized}
 use Rattle.translation.specs.Insn as T
 use Rattle.translation.specs.Arms.{armOf}
-use Rattle.translation.specs.Strip.{entriesOf, strip, insnOf, known, laneMov, byteThree, admits}
+use Rattle.translation.specs.Strip.{entriesOf, strip, insnOf, known, systemValueMov, byteThree, admits}
 use Rattle.translation.proofs.Arms.{arm-range}
-use Rattle.translation.proofs.Shape.{strip-in-order, strip-shape, strip-decodes}
+use Rattle.translation.proofs.Shape.{strip-well-formed, strip-shape, strip-decodes}
 use Rattle.meaning.specs.Record.{Record, recordOf}
 use Rattle.meaning.specs.Operand.{pred}
 use Rattle.meaning.specs.Meaning.{runs, meant, meaning, reads, lent}
 use Rattle.meaning.specs.Interpret.{unlent, meanings}
-use Rattle.translation.specs.Turn.{stripAt, stripsOf}
+use Rattle.translation.specs.Turn.{stripAt, runOf}
 use Rattle.meaning.proofs.Reading.{insn, kind-same, insn-same}
 use Rattle.translation.proofs.Sem.{Ran, ran, halted, sem}
-use Rattle.translation.proofs.Evaluated.{predicateOf, answerOf, strip-evaluated}
+use Rattle.translation.proofs.Evaluated.{predicateAt, stripAnswer, strip-evaluated}
 use Rattle.meaning.proofs.Helper.{final}
 use Rattle.translation.proofs.Stays.{Proper, Stays, stays}
 use Rattle.meaning.proofs.EveryArm.{arm-does, arm-missing}
@@ -41,10 +41,10 @@ use Rattle.meaning.proofs.EveryArm.{arm-does, arm-missing}
 -- ---- one record
 
 -- what evaluating a record's strip answers: 9 where a word is not lent, else its meaning
-unfoldable pub answer : List ℕ → Record → State → Evaluated
-answer ks i s = cond (unlent ks i s) (ends (Refused NoConstant) s) (ends Done (meaning ks i s))
+unfoldable pub recordAnswer : List ℕ → Record → State → Evaluated
+recordAnswer ks i s = cond (unlent ks i s) (ends (Refused NoConstant) s) (ends Done (meaning ks i s))
 
-final-answer : (s t : State) (r : Ran) → final r ≡ some t → answerOf s r ≡ ends Done t
+final-answer : (s t : State) (r : Ran) → final r ≡ some t → stripAnswer s r ≡ ends Done t
 final-answer s t (ran u v) e = let q : u ≡ t = cc in rw q refl
 final-answer s t (halted r u) e = let z : _≡_ {A = ℕ} 0 1 = cc in absurd (omega arith)
 
@@ -57,12 +57,12 @@ module _ (cs : List ℕ) (i : Record) (s : State) (w : Proper cs s) (hk : known 
   arm = sem cs (armOf (i .kind) (insn i)) [] s
 
   -- T6 and T7: 9 where its guard holds and a word that it reads is not lent, else exactly the state of the meaning; never 7, never 8
-  pub strip-means : evaluated (strip (i .kind) (insn i)) s cs ≡ answer cs i s
-  unfolding answer unlent meaning pred predicateOf T.bits T.bit
+  pub strip-means : evaluated (strip (i .kind) (insn i)) s cs ≡ recordAnswer cs i s
+  unfolding recordAnswer unlent meaning pred predicateAt T.bits T.bit
   strip-means = strip-evaluated cs (i .kind) (insn i) s ∙ go (runs i s) (reads i && not (lent cs i)) refl
     where
       go : (b m : Bool) → reads i && not (lent cs i) ≡ m
-          → cond b (answerOf s arm) (ends Done s) ≡ cond (b && m) (ends (Refused NoConstant) s) (ends Done (cond b (meant cs i s) s))
+          → cond b (stripAnswer s arm) (ends Done s) ≡ cond (b && m) (ends (Refused NoConstant) s) (ends Done (cond b (meant cs i s) s))
       go false m e = refl
       go true true e = rw (arm-missing cs i s hk e) refl
       go true false e = final-answer s (meant cs i s) arm (arm-does cs i s w hk hb e)
@@ -86,99 +86,99 @@ admits-known l h =
     let a = and-right (eqb (length l) 18) _ h in
     let b = and-right (known (getD l 0 0)) _ a in
     let c = and-right (not (ltb 2 (insnOf l .form))) _ b in
-    (rw (kind-same l) (and-left (known (getD l 0 0)) _ a), rw (kind-same l) (subst (λ (x : T.Insn). byteThree (getD l 0 0) x ≡ false) (sym (insn-same l)) (not-true (byteThree (getD l 0 0) (insnOf l)) (and-right (not (laneMov (getD l 0 0) (insnOf l))) _ c))))
+    (rw (kind-same l) (and-left (known (getD l 0 0)) _ a), rw (kind-same l) (subst (λ (x : T.Insn). byteThree (getD l 0 0) x ≡ false) (sym (insn-same l)) (not-true (byteThree (getD l 0 0) (insnOf l)) (and-right (not (systemValueMov (getD l 0 0) (insnOf l))) _ c))))
 
 strip-at : (l : List ℕ) → strip (recordOf l .kind) (insn (recordOf l)) ≡ stripAt l
 strip-at l = rw (kind-same l) (ap (strip (getD l 0 0)) (insn-same l))
 
-pub record-means : (cs l : List ℕ) (s : State) → Proper cs s → admits l ≡ true → evaluated (stripAt l) s cs ≡ answer cs (recordOf l) s
+pub record-means : (cs l : List ℕ) (s : State) → Proper cs s → admits l ≡ true → evaluated (stripAt l) s cs ≡ recordAnswer cs (recordOf l) s
 record-means cs l s w h = let a = admits-known l h in ap (λ (x : List ℕ). evaluated x s cs) (sym (strip-at l)) ∙ strip-means cs (recordOf l) s w (a .0) (a .1)
 
 -- ---- a run
 
-answer-unlent : (cs : List ℕ) (i : Record) (s : State) → unlent cs i s ≡ true → answer cs i s ≡ ends (Refused NoConstant) s
-unfolding answer
+answer-unlent : (cs : List ℕ) (i : Record) (s : State) → unlent cs i s ≡ true → recordAnswer cs i s ≡ ends (Refused NoConstant) s
+unfolding recordAnswer
 answer-unlent cs i s e = rw e refl
 
-answer-lent : (cs : List ℕ) (i : Record) (s : State) → unlent cs i s ≡ false → answer cs i s ≡ ends Done (meaning cs i s)
-unfolding answer
+answer-lent : (cs : List ℕ) (i : Record) (s : State) → unlent cs i s ≡ false → recordAnswer cs i s ≡ ends Done (meaning cs i s)
+unfolding recordAnswer
 answer-lent cs i s e = rw e refl
 
 -- a strip's refusal returns the start of the run, not its own
-settled-on : (s : State) (r : Evaluated) (f : State → Evaluated) → settled s (onward r f) ≡ settled s (onward (settled s (onward r (λ t. ends Done t))) f)
-settled-on s r f = go (r .outcome) refl
+restored-on : (s : State) (r : Evaluated) (f : State → Evaluated) → restored s (onward r f) ≡ restored s (onward (restored s (onward r (λ t. ends Done t))) f)
+restored-on s r f = go (r .outcome) refl
   where
-    go : (o : Outcome) → r .outcome ≡ o → settled s (cond (isDone o) (f (r .state)) r) ≡ settled s (onward (settled s (cond (isDone o) (ends Done (r .state)) r)) f)
+    go : (o : Outcome) → r .outcome ≡ o → restored s (cond (isDone o) (f (r .state)) r) ≡ restored s (onward (restored s (cond (isDone o) (ends Done (r .state)) r)) f)
     go Done e = refl
     go (Refused q) e = rw e refl
 
-settled-twice : (s t : State) (r : Evaluated) → settled s (settled t r) ≡ settled s r
-settled-twice s t r = go (isDone (r .outcome)) refl
+restored-twice : (s t : State) (r : Evaluated) → restored s (restored t r) ≡ restored s r
+restored-twice s t r = go (isDone (r .outcome)) refl
   where
-    go : (b : Bool) → isDone (r .outcome) ≡ b → settled s (cond b r (ends (r .outcome) t)) ≡ cond b r (ends (r .outcome) s)
+    go : (b : Bool) → isDone (r .outcome) ≡ b → restored s (cond b r (ends (r .outcome) t)) ≡ cond b r (ends (r .outcome) s)
     go true p = rw p refl
     go false p = rw p refl
 
 abbrev entriesAt : List ℕ → List Entry
 entriesAt l = entriesOf (getD l 0 0) (insnOf l)
 
-strips-bytes : (ls : List (List ℕ)) → stripsOf ls ≡ runBytes (map entriesAt ls)
-unfolding stripsOf runBytes strip
+strips-bytes : (ls : List (List ℕ)) → runOf ls ≡ runBytes (map entriesAt ls)
+unfolding runOf runBytes strip
 strips-bytes [] = refl
 strips-bytes (l ∷ ls) = ap (λ (x : List ℕ). stripBytes (entriesAt l) ++ x) (strips-bytes ls)
 
 strips-formed : (ls : List (List ℕ)) → Each (Each Formed) (map entriesAt ls)
 strips-formed [] = tt
-strips-formed (l ∷ ls) = (strip-in-order (getD l 0 0) (insnOf l) .formed, strips-formed ls)
+strips-formed (l ∷ ls) = (strip-well-formed (getD l 0 0) (insnOf l) .formed, strips-formed ls)
 
 strips-pass : (ls : List (List ℕ)) → all stripOk (map entriesAt ls) ≡ true
 strips-pass [] = refl
-strips-pass (l ∷ ls) = rw (strip-in-order (getD l 0 0) (insnOf l) .passes) (strips-pass ls)
+strips-pass (l ∷ ls) = rw (strip-well-formed (getD l 0 0) (insnOf l) .passes) (strips-pass ls)
 
 strips-ended : (ls : List (List ℕ)) → Each Strip (map entriesAt ls)
 unfolding stripOk
 strips-ended [] = tt
-strips-ended (l ∷ ls) = let o = strip-in-order (getD l 0 0) (insnOf l) in (record { ends = and-left (ended (entriesAt l)) _ (o .passes); formed = o .formed }, strips-ended ls)
+strips-ended (l ∷ ls) = let o = strip-well-formed (getD l 0 0) (insnOf l) in (record { ends = and-left (endsOnce (entriesAt l)) _ (o .passes); formed = o .formed }, strips-ended ls)
 
--- the strips of any records, one behind another, are a run that passes the shape test
-pub strips-shaped : (ls : List (List ℕ)) → shapeOk (stripsOf ls) ≡ true
+-- the strips of any records, one after another, are a run that passes the shape test
+pub strips-shaped : (ls : List (List ℕ)) → shapeOk (runOf ls) ≡ true
 strips-shaped ls = rw (strips-bytes ls) (strips-shape (map entriesAt ls) (strips-formed ls) (strips-pass ls))
 
-strips-from : (cs : List ℕ) (s : State) (ls : List (List ℕ)) → evaluated (stripsOf ls) s cs ≡ settled s (stripsFrom cs s (map entriesAt ls))
-strips-from cs s ls = evaluated-strips s cs (stripsOf ls) (map entriesAt ls) (rw (strips-bytes ls) (strips-run (map entriesAt ls) (strips-ended ls))) (strips-shaped ls)
+strips-from : (cs : List ℕ) (s : State) (ls : List (List ℕ)) → evaluated (runOf ls) s cs ≡ restored s (stripsFrom cs s (map entriesAt ls))
+strips-from cs s ls = evaluated-strips s cs (runOf ls) (map entriesAt ls) (rw (strips-bytes ls) (strips-run (map entriesAt ls) (strips-ended ls))) (strips-shaped ls)
 
 -- one strip is a run of one
-one-strip : (cs : List ℕ) (s : State) (l : List ℕ) → settled s (onward (entriesFrom cs (begun s) (entriesAt l)) (λ t. ends Done t)) ≡ evaluated (stripAt l) s cs
+one-strip : (cs : List ℕ) (s : State) (l : List ℕ) → restored s (onward (entriesFrom cs (begun s) (entriesAt l)) (λ t. ends Done t)) ≡ evaluated (stripAt l) s cs
 unfolding stripsFrom
 one-strip cs s l = sym (evaluated-strips s cs (stripAt l) (entriesAt l ∷ []) (strip-decodes (getD l 0 0) (insnOf l)) (strip-shape (getD l 0 0) (insnOf l)))
 
 -- the answers of records, one after another: the first refusal ends them, and the state beside it is the one before that record
-unfoldable pub answers : List ℕ → List (List ℕ) → State → Evaluated
-answers ks [] s = ends Done s
-answers ks (l ∷ ls) s = onward (answer ks (recordOf l) s) (λ t. answers ks ls t)
+unfoldable pub recordAnswers : List ℕ → List (List ℕ) → State → Evaluated
+recordAnswers ks [] s = ends Done s
+recordAnswers ks (l ∷ ls) s = onward (recordAnswer ks (recordOf l) s) (λ t. recordAnswers ks ls t)
 
 module _ (cs : List ℕ) where
-  answers-from : (ls : List (List ℕ)) (s : State) → Proper cs s → Each (λ l. admits l ≡ true) ls → settled s (stripsFrom cs s (map entriesAt ls)) ≡ settled s (answers cs ls s)
-  unfolding stripsFrom answers
+  answers-from : (ls : List (List ℕ)) (s : State) → Proper cs s → Each (λ l. admits l ≡ true) ls → restored s (stripsFrom cs s (map entriesAt ls)) ≡ restored s (recordAnswers cs ls s)
+  unfolding stripsFrom recordAnswers
   answers-from [] s w h = refl
   answers-from (l ∷ ls) s w h =
       let i = recordOf l in
       let a = admits-known l (h .0) in
-      settled-on s (entriesFrom cs (begun s) (entriesAt l)) (λ t. stripsFrom cs t (map entriesAt ls))
-      ∙ ap (λ (r : Evaluated). settled s (onward r (λ t. stripsFrom cs t (map entriesAt ls)))) (one-strip cs s l ∙ record-means cs l s w (h .0))
+      restored-on s (entriesFrom cs (begun s) (entriesAt l)) (λ t. stripsFrom cs t (map entriesAt ls))
+      ∙ ap (λ (r : Evaluated). restored s (onward r (λ t. stripsFrom cs t (map entriesAt ls)))) (one-strip cs s l ∙ record-means cs l s w (h .0))
       ∙ go (unlent cs i s) (λ e. answers-from ls (meaning cs i s) (meaning-proper cs i s w (a .0) (a .1) e) (h .1)) refl
     where
-      go : (b : Bool) → (unlent cs (recordOf l) s ≡ false → settled (meaning cs (recordOf l) s) (stripsFrom cs (meaning cs (recordOf l) s) (map entriesAt ls)) ≡ settled (meaning cs (recordOf l) s) (answers cs ls (meaning cs (recordOf l) s)))
+      go : (b : Bool) → (unlent cs (recordOf l) s ≡ false → restored (meaning cs (recordOf l) s) (stripsFrom cs (meaning cs (recordOf l) s) (map entriesAt ls)) ≡ restored (meaning cs (recordOf l) s) (recordAnswers cs ls (meaning cs (recordOf l) s)))
           → unlent cs (recordOf l) s ≡ b
-          → settled s (onward (answer cs (recordOf l) s) (λ t. stripsFrom cs t (map entriesAt ls))) ≡ settled s (onward (answer cs (recordOf l) s) (λ t. answers cs ls t))
+          → restored s (onward (recordAnswer cs (recordOf l) s) (λ t. stripsFrom cs t (map entriesAt ls))) ≡ restored s (onward (recordAnswer cs (recordOf l) s) (λ t. recordAnswers cs ls t))
       go true ih e = rw (answer-unlent cs (recordOf l) s e) refl
       go false ih e =
           let t = meaning cs (recordOf l) s in
           rw (answer-lent cs (recordOf l) s e)
-          (sym (settled-twice s t (stripsFrom cs t (map entriesAt ls))) ∙ ap (settled s) (ih e) ∙ settled-twice s t (answers cs ls t))
+          (sym (restored-twice s t (stripsFrom cs t (map entriesAt ls))) ∙ ap (restored s) (ih e) ∙ restored-twice s t (recordAnswers cs ls t))
 
   -- T7b: strips one after another do what their records mean, one after another; the first word that is not lent refuses the run
-  pub run-answers : (ls : List (List ℕ)) (s : State) → Proper cs s → Each (λ l. admits l ≡ true) ls → evaluated (stripsOf ls) s cs ≡ settled s (answers cs ls s)
+  pub run-answers : (ls : List (List ℕ)) (s : State) → Proper cs s → Each (λ l. admits l ≡ true) ls → evaluated (runOf ls) s cs ≡ restored s (recordAnswers cs ls s)
   run-answers ls s w h = strips-from cs s ls ∙ answers-from ls s w h
 
   -- every word that the record reads is lent
@@ -186,10 +186,10 @@ module _ (cs : List ℕ) where
   Lent l = reads (recordOf l) && not (lent cs (recordOf l)) ≡ false
 
   -- then the state after the run is that of the meanings
-  answers-lent : (ls : List (List ℕ)) (s : State) → Each Lent ls → answers cs ls s ≡ ends Done (meanings cs ls s)
-  unfolding answers meanings unlent
+  answers-lent : (ls : List (List ℕ)) (s : State) → Each Lent ls → recordAnswers cs ls s ≡ ends Done (meanings cs ls s)
+  unfolding recordAnswers meanings unlent
   answers-lent [] s h = refl
   answers-lent (l ∷ ls) s h = rw (answer-lent cs (recordOf l) s (rw (h .0) (and-false (runs (recordOf l) s)))) (answers-lent ls (meaning cs (recordOf l) s) (h .1))
 
-  pub run-means : (ls : List (List ℕ)) (s : State) → Proper cs s → Each (λ l. admits l ≡ true) ls → Each Lent ls → evaluated (stripsOf ls) s cs ≡ ends Done (meanings cs ls s)
-  run-means ls s w h r = run-answers ls s w h ∙ ap (settled s) (answers-lent ls s r)
+  pub run-means : (ls : List (List ℕ)) (s : State) → Proper cs s → Each (λ l. admits l ≡ true) ls → Each Lent ls → evaluated (runOf ls) s cs ≡ ends Done (meanings cs ls s)
+  run-means ls s w h r = run-answers ls s w h ∙ ap (restored s) (answers-lent ls s r)

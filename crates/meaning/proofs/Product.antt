@@ -20,9 +20,9 @@ use Rattle.evaluation.specs.Machine.{cellEffect, valueAt, effectOf}
 use Rattle.translation.specs.Insn as T
 use Rattle.meaning.specs.Record.{Record, bit, rd, ra, rc}
 use Rattle.meaning.proofs.Reading.{insn}
-use Rattle.translation.specs.Arms.{xmadInC, xmadHigh, xmadSigned, xmadPsl, xmadMrg, xmadMode, xmadShift, xmadAlter, xmadMerge, xmadProduct, xmadOf, xmadSwaps, xmadBc, xmadFetch, xmad}
+use Rattle.translation.specs.Arms.{xmadInC, xmadHigh, xmadSigned, xmadPsl, xmadMrg, xmadMode, xmadShift, xmadAlter, xmadMerge, xmadProduct, xmadWords, xmadSwaps, xmadBc, xmadFetch, xmad}
 use Rattle.meaning.specs.Number.{wordOf, extracted}
-use Rattle.meaning.specs.Operand.{reg, setReg, constant, secondOf}
+use Rattle.meaning.specs.Operand.{reg, setReg, constant, wordC}
 use Rattle.meaning.specs.Meaning as M
 use Rattle.translation.proofs.Sem.{ran, halted, sem}
 use Rattle.meaning.proofs.Helper.{set-sem, srcBc-sem, srcBc-missing, missing, final, ra-sem, rc-sem}
@@ -153,15 +153,15 @@ module _ (cs : List ℕ) (s : State) where
     unfolding M.xmadSum M.xmadHighB M.xmadMode xmadHigh xmadSigned xmadMode T.bits T.bit
     sum-is a b c = rw (word-sum, shifts-is) refl
 
-    xmadOf-sem : (a b c : ℕ)
-        → sem cs (xmadOf (insn i)) (Word a ∷ Word b ∷ Word c ∷ []) s
+    xmadWords-sem : (a b c : ℕ)
+        → sem cs (xmadWords (insn i)) (Word a ∷ Word b ∷ Word c ∷ []) s
         ≡ ran (setReg s (rd i) (M.merged (M.xmadMerges i) (M.xmadSum i a b c) b)) (Word (M.merged (M.xmadMerges i) (M.xmadSum i a b c) b))
-    unfolding xmadOf effectOf two binary binaryWord withWord valueAt T.bits T.bit
-    xmadOf-sem a b c = rw (xmadProduct-sem, xmadAlter-sem, sum-is, xmadMerge-sem, merges-is, set-sem cs s) refl
+    unfolding xmadWords effectOf two binary binaryWord withWord valueAt T.bits T.bit
+    xmadWords-sem a b c = rw (xmadProduct-sem, xmadAlter-sem, sum-is, xmadMerge-sem, merges-is, set-sem cs s) refl
 
     -- in the immediate form b is sixteen bits, and c a register
     third-is : eqb (i .form) 2 ≡ true → M.xmadC cs i s ≡ reg s (rc i)
-    unfolding secondOf
+    unfolding wordC
     third-is e = go (i .form) (eqb-true (i .form) 2 e)
       where
         go : (f : ℕ) → f ≡ 2 → cond (eqb f 1 && M.xmadSwaps i) (constant cs i) (reg s (rc i)) ≡ reg s (rc i)
@@ -176,14 +176,14 @@ module _ (cs : List ℕ) (s : State) where
       xmadFetch-sem h = go (eqb (i .form) 2) refl
         where
           go : (f : Bool) → eqb (i .form) 2 ≡ f → sem cs (xmadFetch (insn i)) (Word a ∷ []) s ≡ ran (setReg s (rd i) word) (Word word)
-          go true e = rw (e, third-is e, rc-sem cs s i, xmadOf-sem) refl
-          go false e = rw (e, srcBc-sem cs s i (M.xmadSwaps i) (xmadOf (insn i)) a h, xmadOf-sem) refl
+          go true e = rw (e, third-is e, rc-sem cs s i, xmadWords-sem) refl
+          go false e = rw (e, srcBc-sem cs s i (M.xmadSwaps i) (xmadWords (insn i)) a h, xmadWords-sem) refl
 
       xmadFetch-missing : missing cs i ≡ true → sem cs (xmadFetch (insn i)) (Word a ∷ []) s ≡ halted NoConstant s
       unfolding xmadFetch xmadBc T.bits T.bit
       xmadFetch-missing h =
           let e = eqb-true (i .form) 1 (and-left (eqb (i .form) 1) _ h) in
-          rw (constant-form (i .form) e) (srcBc-missing cs s i (xmadSwaps (insn i)) (xmadOf (insn i)) a h)
+          rw (constant-form (i .form) e) (srcBc-missing cs s i (xmadSwaps (insn i)) (xmadWords (insn i)) a h)
         where
           constant-form : (f : ℕ) → f ≡ 1 → eqb f 2 ≡ false
           constant-form f q = rw q refl

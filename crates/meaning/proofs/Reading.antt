@@ -7,7 +7,7 @@ use native.Mathlib.Omega.{arith}
 use lib.ListN.{getD}
 use borrow.Author.Tests.{lt-ltb, le-ltb}
 use Rattle.translation.specs.Insn as T
-use Rattle.translation.specs.Strip.{insnOf, wordAt}
+use Rattle.translation.specs.Strip.{insnOf, wordAt64}
 use Rattle.translation.proofs.InRange as Range
 use Rattle.meaning.specs.Number.{signedOf, wordOf}
 use Rattle.meaning.specs.Record.{Record, numberAt, recordOf, bits, bit, rd, ra, rb, rc, imm32, simm20, constantSlot, constantWord}
@@ -22,11 +22,11 @@ byte-at : (l : List ℕ) (p : ℕ) → numberAt l p 1 ≡ getD l p 0
 unfolding numberAt
 byte-at l p = omega arith
 
-value-at : (l : List ℕ) → numberAt l 2 8 ≡ wordAt l 2
+value-at : (l : List ℕ) → numberAt l 2 8 ≡ wordAt64 l 2
 unfolding numberAt
 value-at l = omega arith
 
-word-at : (l : List ℕ) → numberAt l 10 8 ≡ wordAt l 10
+word-at : (l : List ℕ) → numberAt l 10 8 ≡ wordAt64 l 10
 unfolding numberAt
 word-at l = omega arith
 

@@ -23,9 +23,9 @@ use Rattle.meaning.specs.Record.{Record, bits, bit, rd, ra, rb, rc, cons
 use Rattle.meaning.proofs.Reading.{insn}
 use Rattle.translation.specs.Code.{ite}
 use Rattle.translation.specs.Helpers.{r, srcB, cbufImm, shifted, shiftFill, shiftEnd, shift}
-use Rattle.translation.specs.Arms.{shl, shr, shfLeft, shfAmount, shfSelect, shfWord, shfOf, shf, leaReg, leaCbuf, leaHigh, leaB, leaShift, leaJoin, leaWord, leaNegates, lea}
+use Rattle.translation.specs.Arms.{shl, shr, shfLeft, shfAmount, shfSelect, shfWord, shfWords, shf, leaReg, leaCbuf, leaHigh, leaB, leaShift, leaJoin, leaWord, leaNegates, lea}
 use Rattle.meaning.proofs.Reading.{bits-lt}
-use Rattle.meaning.specs.Number.{signedOf, numberOf, wordOf, divided}
+use Rattle.meaning.specs.Number.{signedOf, integerOf, wordOf, divided}
 use Rattle.meaning.specs.Operand.{reg, setReg, constant, operandB}
 use Rattle.meaning.specs.Meaning as M
 use Rattle.translation.proofs.Sem.{ran, halted, sem}
@@ -35,15 +35,15 @@ use Rattle.meaning.proofs.Reverse.{reverseIf-sem, reverseIf-word}
 use Rattle.meaning.proofs.Carry.{add-wrapped}
 use Rattle.meaning.proofs.Order.{umin-is}
 
--- ---- words shifted by fewer than 32 places, and what is left behind 32
+-- ---- words shifted by fewer than 32 places, and what is left after 32
 
 -- a word as a number, signed or not, divided by 2 ^ n
 abbrev sunk : Bool → ℕ → ℕ → ℕ
-sunk sign a n = wordOf (divided (numberOf sign 32 a) n)
+sunk sign a n = wordOf (divided (integerOf sign 32 a) n)
 
--- what is left behind 32 places or more: of a signed number its sign, else nothing
-abbrev left-behind : Bool → ℕ → ℕ
-left-behind sign a = cond sign (sunk true a 32) 0
+-- what is left after 32 places or more: of a signed number its sign, else nothing
+abbrev left-after : Bool → ℕ → ℕ
+left-after sign a = cond sign (sunk true a 32) 0
 
 module _ (a n : ℕ) (h : a < 2 ^ 32) where
   quotient-word : (x : ℕ) → x < 2 ^ 32 → x / 2 ^ n % 2 ^ 32 ≡ x / 2 ^ n
@@ -85,13 +85,13 @@ module _ (cs : List ℕ) (s : State) where
   shifted-right true a n h l = rw (lt-ltb n 32 l, arithmetic-is a n h) refl
   shifted-right false a n h l = rw (lt-ltb n 32 l, logical-is a n h) refl
 
-  shiftFill-sem : (sign : Bool) (a : ℕ) → a < 2 ^ 32 → sem cs (shiftFill sign) (Word a ∷ []) s ≡ ran s (Word (left-behind sign a))
+  shiftFill-sem : (sign : Bool) (a : ℕ) → a < 2 ^ 32 → sem cs (shiftFill sign) (Word a ∷ []) s ≡ ran s (Word (left-after sign a))
   unfolding shiftFill effectOf oneEffect unary unaryWord two binary binaryWord withWord valueAt
   shiftFill-sem true a h = rw (fill-is a h) refl
   shiftFill-sem false a h = refl
 
   shiftEnd-sem : (sign wrap : Bool) (a b v : ℕ) → a < 2 ^ 32
-      → sem cs (shiftEnd sign wrap) (Word a ∷ Word b ∷ Word v ∷ []) s ≡ ran s (Word (cond wrap v (cond (leb 32 b) (left-behind sign a) v)))
+      → sem cs (shiftEnd sign wrap) (Word a ∷ Word b ∷ Word v ∷ []) s ≡ ran s (Word (cond wrap v (cond (leb 32 b) (left-after sign a) v)))
   unfolding shiftEnd effectOf two compared compareWord withWord valueAt
   shiftEnd-sem sign true a b v h = refl
   shiftEnd-sem sign false a b v h = rw (shiftFill-sem sign a h, select-is) refl
@@ -119,15 +119,15 @@ module _ (cs : List ℕ) (s : State) where
   shift-right sign wrap a b h =
       rw (and-mask b 5, shifted-right sign a (b % 32) h (omega arith), shiftEnd-sem (sign && true) wrap a b _ h, counted wrap) refl
     where
-      nothing : (g : Bool) → left-behind (g && true) a ≡ sunk g a 32
+      nothing : (g : Bool) → left-after (g && true) a ≡ sunk g a 32
       nothing true = refl
       nothing false = let z : a / 2 ^ 32 ≡ 0 = omega arith in sym (sym (logical-is a 32 h) ∙ z)
 
-      below : (t : Bool) → ltb b 32 ≡ t → cond (leb 32 b) (left-behind (sign && true) a) (sunk sign a (b % 32)) ≡ sunk sign a (min b 32)
+      below : (t : Bool) → ltb b 32 ≡ t → cond (leb 32 b) (left-after (sign && true) a) (sunk sign a (b % 32)) ≡ sunk sign a (min b 32)
       below true e = let l = ltb-true b 32 e in let m : b % 32 ≡ b = omega arith in let k : min b 32 ≡ b = omega arith in rw (lt-leb 32 b l, m, k) refl
       below false e = let l = ltb-false b 32 e in let k : min b 32 ≡ 32 = omega arith in rw (le-leb 32 b l, k) (nothing sign)
 
-      counted : (w : Bool) → cond w (sunk sign a (b % 32)) (cond (leb 32 b) (left-behind (sign && true) a) (sunk sign a (b % 32)))
+      counted : (w : Bool) → cond w (sunk sign a (b % 32)) (cond (leb 32 b) (left-after (sign && true) a) (sunk sign a (b % 32)))
           ≡ sunk sign a (min (cond w (b % 32) b) 32)
       counted true = let m : min (b % 32) 32 ≡ b % 32 = omega arith in rw m refl
       counted false = below (ltb b 32) refl
@@ -237,11 +237,11 @@ module _ (cs : List ℕ) (s : State) where
           rw (rest, shfSelect-sem)
           (ap (ran s) (ends-or hi lo hh hl false n _ h (λ p q. rw (lt-ltb n 32 q, lt-ltb (32 - n) 32 (omega arith), right-middle hi lo hh hl n q) refl)))
 
-  shfOf-sem : (i : Record) (lo n hi : ℕ) → lo < 2 ^ 32 → hi < 2 ^ 32
-      → sem cs (shfOf (insn i)) (Word lo ∷ Word n ∷ Word hi ∷ []) s
+  shfWords-sem : (i : Record) (lo n hi : ℕ) → lo < 2 ^ 32 → hi < 2 ^ 32
+      → sem cs (shfWords (insn i)) (Word lo ∷ Word n ∷ Word hi ∷ []) s
       ≡ ran (setReg s (rd i) (M.shifted (shfLeft (insn i)) hi lo (M.shfCount i n))) (Word (M.shifted (shfLeft (insn i)) hi lo (M.shfCount i n)))
-  unfolding shfOf effectOf valueAt T.bits T.bit
-  shfOf-sem i lo n hi hl hh =
+  unfolding shfWords effectOf valueAt T.bits T.bit
+  shfWords-sem i lo n hi hl hh =
       rw (shfAmount-sem, shfWord-sem (shfLeft (insn i)) lo hi (M.shfCount i n) hl hh (count-le (bit i 50)), noteUnless-sem cs s, set-sem cs s) refl
     where
       count-le : (wrap : Bool) → cond wrap (n % 32) (min n 32) ≤ 32
@@ -254,7 +254,7 @@ module _ (cs : List ℕ) (i : Record) (s : State) where
   shf-does h w =
       let k = reg-word cs s (ra i) w in
       let l = reg-word cs s (rc i) w in
-      rw (ra-sem cs s i, srcB-sem cs s i h, rc-sem cs s i, shfOf-sem cs s i _ _ _ k l) refl
+      rw (ra-sem cs s i, srcB-sem cs s i h, rc-sem cs s i, shfWords-sem cs s i _ _ _ k l) refl
 
   pub shf-missing : missing cs i ≡ true → sem cs (shf (insn i)) [] s ≡ halted NoConstant s
   unfolding shf valueAt T.bits T.bit

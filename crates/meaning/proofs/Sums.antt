@@ -20,13 +20,13 @@ use Rattle.translation.specs.Insn as T
 use Rattle.meaning.specs.Record.{Record, bits, bit, rd, ra, rb, rc, imm32}
 use Rattle.meaning.proofs.Reading.{insn}
 use Rattle.translation.specs.Helpers.{carryFlag, signedOverflow, setSumCc, addWithFlags, carryFlagSum, carryOneSum, carrySum, saturateAdd, halfSelect}
-use Rattle.translation.specs.Arms.{prepared, iaddOf, iadd, iadd32i, iadd3Count, iadd3Shift, iadd3Of, iadd3Fetch, iadd3, iscadd}
+use Rattle.translation.specs.Arms.{prepared, iaddWords, iadd, iadd32i, iadd3Count, iadd3Shift, iadd3Words, iadd3Fetch, iadd3, iscadd}
 use Rattle.meaning.proofs.Reading.{bits-lt}
 use Rattle.meaning.specs.Operand.{reg, flag, operandB, half}
 use Rattle.meaning.specs.Meaning as M
 use Rattle.translation.proofs.Sem.{Ran, ran, halted, followed, sem}
 use Rattle.translation.proofs.Stays.{Proper}
-use Rattle.meaning.proofs.Helper.{reg-word, operand-word, set-sem, srcB-sem, srcB-missing, missing, final, select-is, setCc-sem, b2u-sem, inot-sem, ineg-sem, ra-sem, rb-sem, rc-sem, complement-word, negate-word, Gives, given, words, chosen-word}
+use Rattle.meaning.proofs.Helper.{reg-word, operand-word, set-sem, srcB-sem, srcB-missing, missing, final, select-is, setCc-sem, b2u-sem, inot-sem, ineg-sem, ra-sem, rb-sem, rc-sem, complement-word, negate-word, Gives, code-gives, words, chosen-word}
 use Rattle.meaning.proofs.Field.{extracted-lt, half16-sem}
 use Rattle.meaning.proofs.Carry.{wrap-word, add-none, add-wrapped, carry-is, carry-none, overflow-is, clamp-is}
 
@@ -49,7 +49,7 @@ carryIn-small false na nb s = one-small (xor na nb)
 -- ---- sums with their flags
 
 module _ (cs : List ℕ) (s : State) where
-  carryFlag-sem : sem cs carryFlag [] s ≡ ran s (Word (M.carryOf s))
+  carryFlag-sem : sem cs carryFlag [] s ≡ ran s (Word (M.carryBit s))
   unfolding carryFlag effectOf cellEffect loaded valueAt flag
   carryFlag-sem = rw (b2u-sem cs s) refl
 
@@ -96,15 +96,15 @@ module _ (cs : List ℕ) (s : State) (a b : ℕ) (ha : a < 2 ^ 32) (hb : b < 2 ^
       let h = rw (add-none a b) at (setSumCc-sem cs s a b 0 ha hb (omega arith) w true) in rw (add-none a b, carry-none a b ha hb, h) refl
   addWithFlags-sem false = rw (add-none a b) refl
 
-  carryFlagSum-sem : (cc : Bool) → sem cs (carryFlagSum cc) (Word a ∷ Word b ∷ []) s ≡ summed cc (M.carryOf s)
+  carryFlagSum-sem : (cc : Bool) → sem cs (carryFlagSum cc) (Word a ∷ Word b ∷ []) s ≡ summed cc (M.carryBit s)
   unfolding carryFlagSum valueAt
-  carryFlagSum-sem cc = rw (carryFlag-sem cs s, addWithCarry-sem cs s a b (M.carryOf s) ha hb (one-small (flag s 2)) w cc) refl
+  carryFlagSum-sem cc = rw (carryFlag-sem cs s, addWithCarry-sem cs s a b (M.carryBit s) ha hb (one-small (flag s 2)) w cc) refl
 
   carryOneSum-sem : (cc : Bool) → sem cs (carryOneSum cc) (Word a ∷ Word b ∷ []) s ≡ summed cc 1
   unfolding carryOneSum effectOf valueAt
   carryOneSum-sem cc = rw (addWithCarry-sem cs s a b 1 ha hb (omega arith) w cc) refl
 
-  carrySum-sem : (x one cc : Bool) → sem cs (carrySum x one cc) (Word a ∷ Word b ∷ []) s ≡ summed cc (cond x (M.carryOf s) (cond one 1 0))
+  carrySum-sem : (x one cc : Bool) → sem cs (carrySum x one cc) (Word a ∷ Word b ∷ []) s ≡ summed cc (cond x (M.carryBit s) (cond one 1 0))
   unfolding carrySum
   carrySum-sem true one cc = carryFlagSum-sem cc
   carrySum-sem false true cc = carryOneSum-sem cc
@@ -127,10 +127,10 @@ module _ (cs : List ℕ) (s : State) (w : Proper cs s) (a b : ℕ) (ha : a < 2 ^
   carry = M.carryIn x na nb s
 
   -- the flags are those of the sum before it is clamped
-  iaddOf-sem : sem cs (iaddOf d na nb x cc sat) (Word a ∷ Word b ∷ []) s
+  iaddWords-sem : sem cs (iaddWords d na nb x cc sat) (Word a ∷ Word b ∷ []) s
       ≡ ran (M.sum d na nb x cc sat a b s) (Word (cond sat (M.saturated first second carry) (M.wrap (M.total first second carry))))
-  unfolding iaddOf M.sum M.added valueAt
-  iaddOf-sem =
+  unfolding iaddWords M.sum M.added valueAt
+  iaddWords-sem =
       let ka = prepared-word x na nb na a ha in
       let kb = prepared-word x na nb nb b hb in
       let kc = carryIn-small x na nb s in
@@ -142,7 +142,7 @@ module _ (cs : List ℕ) (i : Record) (s : State) where
   pub iadd-does : missing cs i ≡ false → Proper cs s → final (sem cs (iadd (insn i)) [] s) ≡ some (M.iadd cs i s)
   unfolding iadd valueAt T.bits T.bit
   iadd-does h w =
-      let e = iaddOf-sem cs s w (reg s (ra i)) (operandB cs i s) (reg-word cs s (ra i) w) (operand-word cs s i w) in
+      let e = iaddWords-sem cs s w (reg s (ra i)) (operandB cs i s) (reg-word cs s (ra i) w) (operand-word cs s i w) in
       rw (ra-sem cs s i, srcB-sem cs s i h, e (rd i) (bit i 49) (bit i 48) (bit i 43) (bit i 47) (bit i 50)) refl
 
   pub iadd-missing : missing cs i ≡ true → sem cs (iadd (insn i)) [] s ≡ halted NoConstant s
@@ -152,7 +152,7 @@ module _ (cs : List ℕ) (i : Record) (s : State) where
   pub iadd32i-does : Proper cs s → final (sem cs (iadd32i (insn i)) [] s) ≡ some (M.iadd32i i s)
   unfolding iadd32i effectOf valueAt T.bits T.bit
   iadd32i-does w =
-      let e = iaddOf-sem cs s w (reg s (ra i)) (imm32 i) (reg-word cs s (ra i) w) (bits-lt i 20 32) in
+      let e = iaddWords-sem cs s w (reg s (ra i)) (imm32 i) (reg-word cs s (ra i) w) (bits-lt i 20 32) in
       rw (ra-sem cs s i, e (rd i) (bit i 56) false (bit i 53) (bit i 52) (bit i 54)) refl
 
 -- ---- iadd3: halves of the operands, and the first sum shifted, in the register form alone
@@ -190,14 +190,14 @@ module _ (cs : List ℕ) (s : State) where
   halfSelect-sem code x = all .gives
     where
       all : Gives cs s (Word x ∷ []) (halfSelect code) (Word (halfOf code x))
-      all = words _ (given (half16-sem cs s false false x)) (words _ (given (half16-sem cs s true false x)) (given refl))
+      all = words _ (code-gives (half16-sem cs s false false x)) (words _ (code-gives (half16-sem cs s true false x)) (code-gives refl))
 
   iadd3Shift-sem : (n x : ℕ) → sem cs (iadd3Shift n) (Word x ∷ Word 16 ∷ []) s ≡ ran s (Word (shiftedBy n x))
   unfolding iadd3Shift effectOf two binary binaryWord withWord valueAt
   iadd3Shift-sem n x = all .gives
     where
       all : Gives cs s (Word x ∷ Word 16 ∷ []) (iadd3Shift n) (Word (shiftedBy n x))
-      all = words _ (given refl) (words _ (given refl) (given refl))
+      all = words _ (code-gives refl) (words _ (code-gives refl) (code-gives refl))
 
 -- b in the register form
 operand-reg : (cs : List ℕ) (i : Record) (s : State) → eqb (i .form) 0 ≡ true → operandB cs i s ≡ reg s (rb i)
@@ -219,12 +219,12 @@ module _ (cs : List ℕ) (i : Record) (s : State) where
     third = M.negateIf (bit i 49) c
 
     abbrev carry3 : ℕ
-    carry3 = cond (bit i 48) (M.carryOf s) 0
+    carry3 = cond (bit i 48) (M.carryBit s) 0
 
-    iadd3Of-sem : sem cs (iadd3Of (insn i)) (Word a ∷ Word b ∷ Word c ∷ []) s
+    iadd3Words-sem : sem cs (iadd3Words (insn i)) (Word a ∷ Word b ∷ Word c ∷ []) s
         ≡ ran (M.added (rd i) (bit i 47) false firstSum third carry3 s) (Word (M.wrap (M.total firstSum third carry3)))
-    unfolding iadd3Of M.added effectOf two binary binaryWord withWord valueAt T.bits T.bit
-    iadd3Of-sem =
+    unfolding iadd3Words M.added effectOf two binary binaryWord withWord valueAt T.bits T.bit
+    iadd3Words-sem =
         let ka = partSum-word i firstTwo (wrap-word (M.negateIf (bit i 51) a + M.negateIf (bit i 50) b)) in
         rw (ineg-sem cs s (bit i 51) a, ineg-sem cs s (bit i 50) b, ineg-sem cs s (bit i 49) c, iadd3Shift-sem cs s (iadd3Count (insn i)), shifted-is i)
         (rw (carrySum-sem cs s firstSum third ka (negate-word (bit i 49) c hc) w (bit i 48) false (bit i 47), set-sem cs) refl)
@@ -234,11 +234,11 @@ module _ (cs : List ℕ) (i : Record) (s : State) where
     abbrev parts : List Value
     parts = Word (M.part i (bits i 35 2) a) ∷ Word (M.part i (bits i 33 2) (operandB cs i s)) ∷ Word (M.part i (bits i 31 2) (reg s (rc i))) ∷ []
 
-    iadd3Fetch-sem : missing cs i ≡ false → sem cs (iadd3Fetch (insn i)) (Word a ∷ []) s ≡ followed (sem cs (iadd3Of (insn i)) parts s) (λ t v. ran t v)
+    iadd3Fetch-sem : missing cs i ≡ false → sem cs (iadd3Fetch (insn i)) (Word a ∷ []) s ≡ followed (sem cs (iadd3Words (insn i)) parts s) (λ t v. ran t v)
     unfolding iadd3Fetch M.part valueAt T.bits T.bit
     iadd3Fetch-sem h = go (eqb (i .form) 0) refl
       where
-        go : (t : Bool) → eqb (i .form) 0 ≡ t → sem cs (iadd3Fetch (insn i)) (Word a ∷ []) s ≡ followed (sem cs (iadd3Of (insn i)) parts s) (λ t v. ran t v)
+        go : (t : Bool) → eqb (i .form) 0 ≡ t → sem cs (iadd3Fetch (insn i)) (Word a ∷ []) s ≡ followed (sem cs (iadd3Words (insn i)) parts s) (λ t v. ran t v)
         go true e =
             rw (e, rb-sem cs s i, rc-sem cs s i, operand-reg cs i s e)
             (rw (halfSelect-sem cs s (bits i 35 2), halfSelect-sem cs s (bits i 33 2), halfSelect-sem cs s (bits i 31 2)) refl)
@@ -252,7 +252,7 @@ module _ (cs : List ℕ) (i : Record) (s : State) where
   unfolding iadd3 valueAt T.bits T.bit
   iadd3-does h w =
       let hc = part-word i (bits i 31 2) (reg s (rc i)) (reg-word cs s (rc i) w) in
-      rw (ra-sem cs s i, iadd3Fetch-sem (reg s (ra i)) h, iadd3Of-sem w _ _ _ hc) refl
+      rw (ra-sem cs s i, iadd3Fetch-sem (reg s (ra i)) h, iadd3Words-sem w _ _ _ hc) refl
 
   pub iadd3-missing : missing cs i ≡ true → sem cs (iadd3 (insn i)) [] s ≡ halted NoConstant s
   unfolding iadd3 valueAt T.bits T.bit

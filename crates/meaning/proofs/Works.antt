@@ -15,14 +15,14 @@ use Rattle.evaluation.specs.declared.machine.Outcome.the-variants.{Done}
 use Rattle.evaluation.specs.declared.machine.Evaluated.{Evaluated}
 use Rattle.evaluation.specs.Machine.{onward, ends, evaluated}
 use Rattle.translation.specs.Insn as T
-use Rattle.translation.specs.Strip.{known, laneMov, byteThree, admits}
+use Rattle.translation.specs.Strip.{known, systemValueMov, byteThree, admits}
 use Rattle.meaning.specs.Number.{signedOf, wordOf, bitAt, fromBits, inserted}
 use Rattle.meaning.specs.Operand.{reg, setReg, pred, flag, setFlags, operandB}
-use Rattle.meaning.specs.Meaning.{carryOf, overflows, complementIf, negateIf, prepared, carryIn, setSumFlags, added, sum, cellBit, packed, meant, meaning, reads}
+use Rattle.meaning.specs.Meaning.{carryBit, overflows, complementIf, negateIf, prepared, carryIn, setSumFlags, added, sum, cellBit, packed, meant, meaning, reads}
 use Rattle.meaning.specs.Record.{numberAt, recordOf, simm20}
 use Rattle.meaning.specs.Interpret.{unlent, meanings}
-use Rattle.translation.specs.Turn.{stripsOf}
-use Rattle.meaning.specs.Works.{countLow, countHigh, countRecords, counted, Counts, conditionsSum, conditionsPack, conditionsRecords, sumFlags, Packs}
+use Rattle.translation.specs.Turn.{runOf}
+use Rattle.meaning.specs.Works.{countLow, countHigh, countRecords, count64, Counts, conditionsSum, conditionsPack, conditionsRecords, sumFlags, Packs}
 use Rattle.translation.proofs.Stays.{Proper}
 use Rattle.meaning.proofs.Helper.{reg-word}
 use Rattle.meaning.proofs.Digits.{from-lt, bit-from, inserted-is}
@@ -77,7 +77,7 @@ module _ (b : ℕ) (s : State) where
   unfolding sumWith
   sum-other m h = stored-other (setFlags s _ _ _ _) 0 _ refl m h ∙ flags-apart s _ _ _ _ m
 
-  sum-carry : carryOf (sumWith b s) ≡ cond (leb (2 ^ 32) (reg s 0 + b)) 1 0
+  sum-carry : carryBit (sumWith b s) ≡ cond (leb (2 ^ 32) (reg s 0 + b)) 1 0
   unfolding sumWith flag setReg setFlags
   sum-carry = refl
 
@@ -92,14 +92,14 @@ unfolding sumWith meaning meant simm20 pred operandB prepared complementIf negat
 low-is cs s = let e : reg s 0 + 1 + 0 ≡ reg s 0 + 1 = omega arith in ap (left s (reg s 0) 1) e
 
 unfoldable high : State → State
-high s = setReg s 1 ((reg s 1 + carryOf s) % 2 ^ 32)
+high s = setReg s 1 ((reg s 1 + carryBit s) % 2 ^ 32)
 
 high-is : (cs : List ℕ) (s : State) → meaning cs (recordOf countHigh) s ≡ high s
 unfolding high meaning meant reg pred operandB prepared complementIf negateIf carryIn setSumFlags added sum xor recordOf numberAt
-high-is cs s = let e : reg s 1 + 0 + carryOf s ≡ reg s 1 + carryOf s = omega arith in ap (λ (x : ℕ). setReg s 1 (x % 2 ^ 32)) e
+high-is cs s = let e : reg s 1 + 0 + carryBit s ≡ reg s 1 + carryBit s = omega arith in ap (λ (x : ℕ). setReg s 1 (x % 2 ^ 32)) e
 
 count-admitted : Each (λ l. admits l ≡ true) countRecords
-unfolding admits known laneMov byteThree recordOf numberAt T.bits
+unfolding admits known systemValueMov byteThree recordOf numberAt T.bits
 count-admitted = (refl, (refl, tt))
 
 count-reads : (cs : List ℕ) → Each (Lent cs) countRecords
@@ -154,7 +154,7 @@ module _ (cs : List ℕ) (s : State) (w : Words cs s) where
     preds = next-preds;
   }
 
-  next-evaluated : evaluated (stripsOf countRecords) s cs ≡ ends Done next
+  next-evaluated : evaluated (runOf countRecords) s cs ≡ ends Done next
   unfolding next low meanings
   next-evaluated =
       run-means cs countRecords s (w .proper) count-admitted (count-reads cs)
@@ -168,27 +168,27 @@ unfoldable pub repeated : List ℕ → List ℕ → ℕ → State → Evaluated
 repeated run cs zero s = ends Done s
 repeated run cs (suc n) s = onward (repeated run cs n s) (λ t. evaluated run t cs)
 
-record Behind (cs : List ℕ) (n : ℕ) (s : State) (e : Evaluated) : Type 0 where
+record Counted (cs : List ℕ) (n : ℕ) (s : State) (e : Evaluated) : Type 0 where
   pub done : e .outcome ≡ Done
   pub words : Words cs (e .state)
   pub counts : Counts n s (e .state)
 
 module _ (cs : List ℕ) (s : State) (w : Words cs s) where
-  behind : (n : ℕ) → Behind cs n s (repeated (stripsOf countRecords) cs n s)
+  counted-up : (n : ℕ) → Counted cs n s (repeated (runOf countRecords) cs n s)
   unfolding repeated
-  behind zero = record { done = refl; words = w; counts = record { count = omega (arith, reg-word cs s 0 (w .proper), reg-word cs s 1 (w .proper)); others = λ k h. refl; preds = refl } }
-  behind (suc n) = more (behind n)
+  counted-up zero = record { done = refl; words = w; counts = record { count = omega (arith, reg-word cs s 0 (w .proper), reg-word cs s 1 (w .proper)); others = λ k h. refl; preds = refl } }
+  counted-up (suc n) = more (counted-up n)
     where
-      more : Behind cs n s (repeated (stripsOf countRecords) cs n s) → Behind cs (suc n) s (onward (repeated (stripsOf countRecords) cs n s) (λ t. evaluated (stripsOf countRecords) t cs))
+      more : Counted cs n s (repeated (runOf countRecords) cs n s) → Counted cs (suc n) s (onward (repeated (runOf countRecords) cs n s) (λ t. evaluated (runOf countRecords) t cs))
       more b =
-          let t = repeated (stripsOf countRecords) cs n s .state in
+          let t = repeated (runOf countRecords) cs n s .state in
           let c = next-counts cs t (b .words) in
           rw (b .done, next-evaluated cs t (b .words))
           (record {
             done = refl;
             words = next-words cs t (b .words);
             counts = record {
-              count = one-more (counted s) (counted t) _ n (b .counts .count) (c .count);
+              count = one-more (count64 s) (count64 t) _ n (b .counts .count) (c .count);
               others = λ k h. c .others k h ∙ b .counts .others k h;
               preds = c .preds ∙ b .counts .preds;
             };
@@ -196,8 +196,8 @@ module _ (cs : List ℕ) (s : State) (w : Words cs s) where
 
 -- from every state, evaluating the work's run n times is never refused and adds n to the 64 bits
 pub count-counts : (cs : List ℕ) (s : State) → Proper cs s → length (s .regs) ≡ 255 → (n : ℕ)
-    → (repeated (stripsOf countRecords) cs n s .outcome ≡ Done) × Counts n s (repeated (stripsOf countRecords) cs n s .state)
-count-counts cs s w l n = let b = behind cs s (record { proper = w; size = l }) n in (b .done, b .counts)
+    → (repeated (runOf countRecords) cs n s .outcome ≡ Done) × Counts n s (repeated (runOf countRecords) cs n s .state)
+count-counts cs s w l n = let b = counted-up cs s (record { proper = w; size = l }) n in (b .done, b .counts)
 
 -- ---- the conditions
 
@@ -213,7 +213,7 @@ unfolding packs meaning meant pred xor recordOf numberAt
 packs-is cs s = refl
 
 conditions-admitted : Each (λ l. admits l ≡ true) conditionsRecords
-unfolding admits known laneMov byteThree recordOf numberAt T.bits
+unfolding admits known systemValueMov byteThree recordOf numberAt T.bits
 conditions-admitted = (refl, (refl, tt))
 
 conditions-reads : (cs : List ℕ) → Each (Lent cs) conditionsRecords
@@ -277,12 +277,12 @@ module _ (cs : List ℕ) (s : State) (w : Proper cs s) (l : length (s .regs) ≡
     preds = stored-preds total 2 _ refl ∙ sum-preds (reg s 1) s;
   }
 
-  end-evaluated : evaluated (stripsOf conditionsRecords) s cs ≡ ends Done end
+  end-evaluated : evaluated (runOf conditionsRecords) s cs ≡ ends Done end
   unfolding end total meanings
   end-evaluated =
       run-means cs conditionsRecords s w conditions-admitted (conditions-reads cs)
       ∙ ap (ends Done) (ap (meaning cs (recordOf conditionsPack)) (sum-is cs s) ∙ packs-is cs total)
 
   -- from every state the work's run is not refused, its four bits are the sum's flags, and the number beside them survives
-  pub conditions-pack : (evaluated (stripsOf conditionsRecords) s cs .outcome ≡ Done) × Packs s (evaluated (stripsOf conditionsRecords) s cs .state)
+  pub conditions-pack : (evaluated (runOf conditionsRecords) s cs .outcome ≡ Done) × Packs s (evaluated (runOf conditionsRecords) s cs .state)
   conditions-pack = rw end-evaluated (refl, end-packs)

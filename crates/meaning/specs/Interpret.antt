@@ -34,8 +34,8 @@ pub record Answer : Type 0 where
   pub number : ℕ
   pub state : State
 
-abbrev pub answered : ℕ → State → Answer
-answered n s = record { number = n; state = s }
+abbrev pub returns : ℕ → State → Answer
+returns n s = record { number = n; state = s }
 
 -- of what the code hands back
 unfoldable pub numberOf : Outcome → ℕ
@@ -43,13 +43,13 @@ numberOf Done = 0
 numberOf (Refused n) = n
 
 abbrev pub answerOf : Interpreted → Answer
-answerOf r = answered (numberOf (r .outcome)) (r .state)
+answerOf r = returns (numberOf (r .outcome)) (r .state)
 
 unfoldable pub interpretation : List ℕ → State → List ℕ → Answer
 interpretation l s ks =
     cond (eqb (refusal l) 0)
-    (cond (unlent ks (recordOf l) s) (answered 9 s) (answered 0 (meaning ks (recordOf l) s)))
-    (answered (refusal l) s)
+    (cond (unlent ks (recordOf l) s) (returns 9 s) (returns 0 (meaning ks (recordOf l) s)))
+    (returns (refusal l) s)
 
 -- the meanings of records, one after another
 unfoldable pub meanings : List ℕ → List (List ℕ) → State → State

@@ -1,5 +1,5 @@
 -- What the thirty instructions mean (01, 'Meanings and their corners'), on the record, the state and the lent words. Bits are named by
--- their place in the word. Each meaning gives the state behind the instruction where its guard holds.
+-- their place in the word. Each meaning gives the state after the instruction where its guard holds.
 use mathlib.Core.Bool.{Bool, true, false, cond, not, _&&_, _||_, xor, Bool·beq}
 use mathlib.Core.List.{List}
 use Prim.Native.Nat.{ℕ, zero, suc, _+_, _-_, _*_, _/_, _%_, _^_, min}
@@ -8,9 +8,9 @@ use lib.ListN.{length}
 use lib.IntN.{ℤ, pos, natAbs, _+ℤ_, _*ℤ_}
 use lib.Signed.{ltZ, leZ}
 use Rattle.evaluation.specs.declared.state.State.{State}
-use Rattle.meaning.specs.Number.{signed, numberOf, wordOf, clamp, least, greatest, divided, smaller, greater, bitAt, fromBits, ones, highestOne, complement, reversed, field, extracted, inserted, digit}
+use Rattle.meaning.specs.Number.{signed, integerOf, wordOf, clamp, least, greatest, divided, smaller, greater, bitAt, fromBits, ones, highestOne, complement, reversed, field, extracted, inserted, digit}
 use Rattle.meaning.specs.Record.{Record, bits, bit, rd, ra, rb, rc, imm32, simm20}
-use Rattle.meaning.specs.Operand.{reg, setReg, pred, setPred, flag, setFlag, setFlags, setZS, predIf, constantPlace, constant, operandB, firstOf, secondOf, half}
+use Rattle.meaning.specs.Operand.{reg, setReg, pred, setPred, flag, setFlag, setFlags, setZS, predIf, constantPlace, constant, operandB, wordB, wordC, half}
 
 -- the instruction runs: its guard, a predicate, negated or not
 abbrev pub runs : Record → State → Bool
@@ -58,13 +58,13 @@ imnmx ks i s =
 -- the eight integer tests are one rule: bit 0 of the code holds for less, bit 1 for equal, bit 2 for greater
 unfoldable pub intTest : ℕ → Bool → ℕ → ℕ → Bool
 intTest t sign x y =
-    (bitAt t 0 && ltZ (numberOf sign 32 x) (numberOf sign 32 y))
-    || ((bitAt t 1 && eqb x y) || (bitAt t 2 && ltZ (numberOf sign 32 y) (numberOf sign 32 x)))
+    (bitAt t 0 && ltZ (integerOf sign 32 x) (integerOf sign 32 y))
+    || ((bitAt t 1 && eqb x y) || (bitAt t 2 && ltZ (integerOf sign 32 y) (integerOf sign 32 x)))
 
 -- c against 0; 0x5340 has the constant in c
 abbrev pub icmp : List ℕ → Record → State → State
 icmp ks i s =
-    setReg s (rd i) (cond (intTest (bits i 49 3) (bit i 48) (secondOf ks i (opcode i 21312) s) 0) (reg s (ra i)) (firstOf ks i (opcode i 21312) s))
+    setReg s (rd i) (cond (intTest (bits i 49 3) (bit i 48) (wordC ks i (opcode i 21312) s) 0) (reg s (ra i)) (wordB ks i (opcode i 21312) s))
 
 -- the condition tests on Z, S, C and O; 15 and those above 23 are true
 unfoldable pub condition : ℕ → (z sign c o : Bool) → Bool
@@ -142,8 +142,8 @@ unfoldable pub setSumFlags : Bool → ℕ → ℕ → ℕ → State → State
 setSumFlags on a b k s =
     cond on (setFlags s (eqb (wrap (total a b k)) 0) (leb (2 ^ 31) (wrap (total a b k))) (leb (2 ^ 32) (total a b k)) (overflows a b k)) s
 
-abbrev pub carryOf : State → ℕ
-carryOf s = cond (flag s 2) 1 0
+abbrev pub carryBit : State → ℕ
+carryBit s = cond (flag s 2) 1 0
 
 -- with extend, or with exactly one sign bit, an operand marked negative is complemented; with both and no extend, each is negated
 unfoldable pub prepared : Bool → Bool → Bool → Bool → ℕ → ℕ
@@ -151,7 +151,7 @@ prepared extend na nb on x = cond (extend || xor na nb) (complementIf on x) (neg
 
 -- the carry is C with extend, 1 with exactly one sign bit, else 0
 unfoldable pub carryIn : Bool → Bool → Bool → State → ℕ
-carryIn extend na nb s = cond extend (carryOf s) (cond (xor na nb) 1 0)
+carryIn extend na nb s = cond extend (carryBit s) (cond (xor na nb) 1 0)
 
 unfoldable pub added : ℕ → (cc sat : Bool) → ℕ → ℕ → ℕ → State → State
 added d cc sat a b k s = setReg (setSumFlags cc a b k s) d (cond sat (saturated a b k) (wrap (total a b k)))
@@ -179,7 +179,7 @@ iadd3 ks i s =
     added (rd i) (bit i 47) false
     (partSum i (wrap (negateIf (bit i 51) (part i (bits i 35 2) (reg s (ra i))) + negateIf (bit i 50) (part i (bits i 33 2) (operandB ks i s)))))
     (negateIf (bit i 49) (part i (bits i 31 2) (reg s (rc i))))
-    (cond (bit i 48) (carryOf s) 0)
+    (cond (bit i 48) (carryBit s) 0)
     s
 
 abbrev pub iscadd : List ℕ → Record → State → State
@@ -192,10 +192,10 @@ abbrev pub xmadSwaps : Record → Bool
 xmadSwaps i = opcode i 20736
 
 abbrev pub xmadB : List ℕ → Record → State → ℕ
-xmadB ks i s = cond (eqb (i .form) 2) (bits i 20 16) (firstOf ks i (xmadSwaps i) s)
+xmadB ks i s = cond (eqb (i .form) 2) (bits i 20 16) (wordB ks i (xmadSwaps i) s)
 
 abbrev pub xmadC : List ℕ → Record → State → ℕ
-xmadC ks i s = secondOf ks i (xmadSwaps i) s
+xmadC ks i s = wordC ks i (xmadSwaps i) s
 
 unfoldable pub xmadHighB : Record → Bool
 xmadHighB i = cond (eqb (i .form) 1) (bit i 52) (eqb (i .form) 0 && bit i 35)
@@ -211,7 +211,7 @@ xmadMode i = cond (eqb (i .form) 1) (bits i 50 2) (bits i 50 3)
 
 -- a half as an integer
 abbrev pub halfNumber : Bool → Bool → ℕ → ℤ
-halfNumber high sign x = numberOf sign 16 (field x (cond high 16 0) 16)
+halfNumber high sign x = integerOf sign 16 (field x (cond high 16 0) 16)
 
 -- its low half, its high half, or b × 65,536 added to it
 unfoldable pub altered : ℕ → ℕ → ℕ → ℕ
@@ -274,7 +274,7 @@ shl ks i s = setReg s (rd i) (cond (ltb (count i (operandB ks i s)) 32) (wrap (r
 
 abbrev pub shr : List ℕ → Record → State → State
 shr ks i s =
-    setReg s (rd i) (wordOf (divided (numberOf (bit i 48) 32 (reverseIf (bit i 40) (reg s (ra i)))) (min (count i (operandB ks i s)) 32)))
+    setReg s (rd i) (wordOf (divided (integerOf (bit i 48) 32 (reverseIf (bit i 40) (reg s (ra i)))) (min (count i (operandB ks i s)) 32)))
 
 -- shf: of the double word high × 2 ^ 32 + low; bit 50 takes the count modulo 32; 0x5bf8 and 0x36f8 shift left, and give the high word
 abbrev pub double : ℕ → ℕ → ℕ
@@ -322,10 +322,10 @@ bfe ks i s =
 
 -- 0x53f0 has the constant in c
 abbrev pub bfiB : List ℕ → Record → State → ℕ
-bfiB ks i s = firstOf ks i (opcode i 21488) s
+bfiB ks i s = wordB ks i (opcode i 21488) s
 
 abbrev pub bfi : List ℕ → Record → State → State
-bfi ks i s = setReg s (rd i) (inserted (secondOf ks i (opcode i 21488) s) (reg s (ra i)) (position (bfiB ks i s)) (width (bfiB ks i s)))
+bfi ks i s = setReg s (rd i) (inserted (wordC ks i (opcode i 21488) s) (reg s (ra i)) (position (bfiB ks i s)) (width (bfiB ks i s)))
 
 -- ---- vmnmx: of bytes, halves or words
 
@@ -345,7 +345,7 @@ unfoldable pub mixedMin : Bool → ℕ → ℕ → ℕ
 mixedMin sa a b = cond (leb (2 ^ 31) (cond sa a b)) (cond sa a b) (smaller true a b)
 
 unfoldable pub exactMax : (sa sb : Bool) → ℕ → ℕ → ℕ
-exactMax sa sb a b = cond (leZ (numberOf sa 32 a) (numberOf sb 32 b)) b a
+exactMax sa sb a b = cond (leZ (integerOf sa 32 a) (integerOf sb 32 b)) b a
 
 unfoldable pub extremum : (sa sb max : Bool) → ℕ → ℕ → ℕ
 extremum sa sb max a b = cond max (exactMax sa sb a b) (cond (Bool·beq sa sb) (smaller sa a b) (mixedMin sa a b))
@@ -356,7 +356,7 @@ extremumSigned sa sb max = cond (Bool·beq sa sb) sa (not max)
 
 -- where it is asked for, a word that counts as signed or not, clamped to n bits, signed or not
 unfoldable pub clampIf : Bool → Bool → Bool → ℕ → ℕ → ℕ
-clampIf on from to n v = cond on (wordOf (clamp (least to n) (greatest to n) (numberOf from 32 v))) v
+clampIf on from to n v = cond on (wordOf (clamp (least to n) (greatest to n) (integerOf from 32 v))) v
 
 -- joined with c: put into a half or byte of it, added, or the smaller or greater of both
 unfoldable pub joined : ℕ → Bool → ℕ → ℕ → ℕ
@@ -377,12 +377,12 @@ vmnmx i s =
 
 -- ---- i2i: a byte, half or word, its absolute value, negated, clamped, and cut to the size of the result
 
-abbrev pub sizeOf : ℕ → ℕ
-sizeOf code = cond (eqb code 0) 8 (cond (eqb code 1) 16 32)
+abbrev pub bitsOfSize : ℕ → ℕ
+bitsOfSize code = cond (eqb code 0) 8 (cond (eqb code 1) 16 32)
 
 -- a byte or half from a byte on, its sign extended or not; else the word
 unfoldable pub source : ℕ → Bool → ℕ → ℕ → ℕ
-source code sign byte x = extracted sign x (cond (ltb code 2) (byte * 8) 0) (sizeOf code)
+source code sign byte x = extracted sign x (cond (ltb code 2) (byte * 8) 0) (bitsOfSize code)
 
 -- that of -2 ^ 31 wraps to itself
 unfoldable pub absoluteIf : Bool → ℕ → ℕ
@@ -392,7 +392,7 @@ abbrev pub i2i : List ℕ → Record → State → State
 i2i ks i s =
     setReg s (rd i)
     (source (bits i 8 2) (bit i 12) 0
-    (clampIf (bit i 50) (bit i 13) (bit i 12) (sizeOf (bits i 8 2))
+    (clampIf (bit i 50) (bit i 13) (bit i 12) (bitsOfSize (bits i 8 2))
     (negateIf (bit i 45) (absoluteIf (bit i 49 && bit i 13) (source (bits i 10 2) (bit i 13) (bits i 41 2) (operandB ks i s))))))
 
 -- ---- counts

@@ -15,8 +15,8 @@ abbrev pub signed : ℕ → ℤ
 signed x = signedOf 32 x
 
 -- a number of n bits, signed or not
-abbrev pub numberOf : Bool → ℕ → ℕ → ℤ
-numberOf sign n x = cond sign (signedOf n x) (pos x)
+abbrev pub integerOf : Bool → ℕ → ℕ → ℤ
+integerOf sign n x = cond sign (signedOf n x) (pos x)
 
 -- the word that an integer wraps to
 unfoldable pub wordOf : ℤ → ℕ
@@ -41,10 +41,10 @@ divided (negsuc x) n = negsuc (x / 2 ^ n)
 
 -- of two words the smaller or greater, as signed or unsigned numbers
 unfoldable pub smaller : Bool → ℕ → ℕ → ℕ
-smaller sign x y = cond (leZ (numberOf sign 32 x) (numberOf sign 32 y)) x y
+smaller sign x y = cond (leZ (integerOf sign 32 x) (integerOf sign 32 y)) x y
 
 unfoldable pub greater : Bool → ℕ → ℕ → ℕ
-greater sign x y = cond (leZ (numberOf sign 32 x) (numberOf sign 32 y)) y x
+greater sign x y = cond (leZ (integerOf sign 32 x) (integerOf sign 32 y)) y x
 
 -- ---- bits
 
@@ -85,7 +85,7 @@ field x p n = x / 2 ^ p % 2 ^ n
 
 -- the field as a word, its sign extended or not
 unfoldable pub extracted : Bool → ℕ → ℕ → ℕ → ℕ
-extracted sign x p n = wordOf (numberOf sign n (field x p n))
+extracted sign x p n = wordOf (integerOf sign n (field x p n))
 
 -- x with the field replaced by the low bits of v
 unfoldable pub inserted : ℕ → ℕ → ℕ → ℕ → ℕ

@@ -56,11 +56,11 @@ unfoldable pub operandB : List ℕ → Record → State → ℕ
 operandB ks i s = cond (eqb (i .form) 0) (reg s (rb i)) (cond (eqb (i .form) 1) (constant ks i) (simm20 i))
 
 -- b and c: in the constant form the opcode's value may swap them, so that the constant is c
-unfoldable pub firstOf : List ℕ → Record → Bool → State → ℕ
-firstOf ks i swap s = cond (eqb (i .form) 1 && swap) (reg s (rc i)) (operandB ks i s)
+unfoldable pub wordB : List ℕ → Record → Bool → State → ℕ
+wordB ks i swap s = cond (eqb (i .form) 1 && swap) (reg s (rc i)) (operandB ks i s)
 
-unfoldable pub secondOf : List ℕ → Record → Bool → State → ℕ
-secondOf ks i swap s = cond (eqb (i .form) 1 && swap) (constant ks i) (reg s (rc i))
+unfoldable pub wordC : List ℕ → Record → Bool → State → ℕ
+wordC ks i swap s = cond (eqb (i .form) 1 && swap) (constant ks i) (reg s (rc i))
 
 -- the low or high half, its sign extended or not
 abbrev pub half : Bool → Bool → ℕ → ℕ

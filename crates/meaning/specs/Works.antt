@@ -22,12 +22,12 @@ countHigh = 9 ∷ 0 ∷ 0 ∷ 0 ∷ 0 ∷ 0 ∷ 0 ∷ 0 ∷ 16 ∷ 92 ∷ 1 ∷ 
 abbrev pub countRecords : List (List ℕ)
 countRecords = countLow ∷ countHigh ∷ []
 
-abbrev pub counted : State → ℕ
-counted s = reg s 1 * 2 ^ 32 + reg s 0
+abbrev pub count64 : State → ℕ
+count64 s = reg s 1 * 2 ^ 32 + reg s 0
 
--- t is n steps behind s; other registers and the predicates are as they were
+-- t is n steps after s; other registers and the predicates are as they were
 pub record Counts (n : ℕ) (s t : State) : Type 0 where
-  pub count : counted t ≡ (counted s + n) % 2 ^ 64
+  pub count : count64 t ≡ (count64 s + n) % 2 ^ 64
   pub others : (k : ℕ) → 2 ≤ k → reg t k ≡ reg s k
   pub preds : t .preds ≡ s .preds
 

@@ -1,7 +1,7 @@
 // A record on a state: it is translated and its strip evaluated, and what comes back is what the record means.
 ghost use mathlib.Core.Path.{_≡_};
 ghost use Rattle.evaluation.specs.Machine.{evaluation};
-ghost use Rattle.meaning.specs.Interpret.{numberOf, answered, answerOf, interpretation};
+ghost use Rattle.meaning.specs.Interpret.{numberOf, returns, answerOf, interpretation};
 use evaluation::State;
 
 pub enum Outcome {
@@ -37,7 +37,7 @@ fn refused(state: State, number: u32) -> Interpreted
 
 // A strip from a state.
 fn evaluate(run: &[u8], state: State, constants: &[u32]) -> Interpreted
-    ensures { λ r. ⌜ answerOf r ≡ answered (evaluation (now (run .entry)) state (now (constants .entry)) .number) (evaluation (now (run .entry)) state (now (constants .entry)) .state) ⌝ }
+    ensures { λ r. ⌜ answerOf r ≡ returns (evaluation (now (run .entry)) state (now (constants .entry)) .number) (evaluation (now (run .entry)) state (now (constants .entry)) .state) ⌝ }
 {
     let e = evaluation::evaluate(run, state, constants);
     let o = e.outcome;

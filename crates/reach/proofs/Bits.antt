@@ -11,7 +11,7 @@ use lib.ListN.{getD, set, replicate, length-set}
 use lib.Seq.{getD-set-same, getD-set-other}
 use borrow.Author.Tests.{eqb-true, eqb-false, eq-eqb, ne-eqb}
 use Rattle.strip.proofs.Digits.{digit, digit-or, digit-0, digit-pow, digit-lt}
-use Rattle.reach.specs.Rows.{Sized, bit, setRow, joinRow, copyRow, wipeRow, addCell}
+use Rattle.reach.specs.Rows.{Sized, inRow, setRow, joinRow, copyRow, wipeRow, addCell}
 
 -- ---- the words of a table with a new row
 
@@ -128,32 +128,32 @@ pick-is n a p (suc (suc (suc (suc (suc w))))) l = absurd (omega arith)
 
 module _ (t : List ℕ) (r s : ℕ) (sized : Sized t) (h : r < 300) (x d : ℕ) (m : d < 298) where
   -- a row whose words are n
-  new-bit : (n : ℕ → ℕ) (a : ℕ) → a ≡ n 0 → bit (setRow t r a (n 1) (n 2) (n 3) (n 4)) x d ≡ cond (eqb x r) (truth (n (d / 64)) (d % 64)) (bit t x d)
-  unfolding bit digit
+  new-bit : (n : ℕ → ℕ) (a : ℕ) → a ≡ n 0 → inRow (setRow t r a (n 1) (n 2) (n 3) (n 4)) x d ≡ cond (eqb x r) (truth (n (d / 64)) (d % 64)) (inRow t x d)
+  unfolding inRow digit
   new-bit n a is = go (eqb x r) refl
     where
       low : d / 64 < 5
       low = omega arith
 
-      go : (q : Bool) → eqb x r ≡ q → bit (setRow t r a (n 1) (n 2) (n 3) (n 4)) x d ≡ cond q (truth (n (d / 64)) (d % 64)) (bit t x d)
+      go : (q : Bool) → eqb x r ≡ q → inRow (setRow t r a (n 1) (n 2) (n 3) (n 4)) x d ≡ cond q (truth (n (d / 64)) (d % 64)) (inRow t x d)
       go true p =
           ap (λ (y : ℕ). truth y (d % 64))
           (ap (λ (y : ℕ). getD (setRow t r a (n 1) (n 2) (n 3) (n 4)) (y * 5 + d / 64) 0) (eqb-true x r p) ∙ row-same t r _ _ _ _ _ sized h (d / 64) low ∙ pick-is n a is (d / 64) low)
       go false p = ap (λ (y : ℕ). truth y (d % 64)) (row-other t r _ _ _ _ _ x (d / 64) low (eqb-false x r p))
 
-  pub join-bit : bit (joinRow t r s) x d ≡ cond (eqb x r) (bit t r d || bit t s d) (bit t x d)
-  unfolding joinRow bit digit
+  pub join-bit : inRow (joinRow t r s) x d ≡ cond (eqb x r) (inRow t r d || inRow t s d) (inRow t x d)
+  unfolding joinRow inRow digit
   join-bit =
       new-bit (λ w. bitOr (getD t (r * 5 + w) 0) (getD t (s * 5 + w) 0)) (bitOr (getD t (r * 5) 0) (getD t (s * 5) 0)) (rw (add-zero (r * 5), add-zero (s * 5)))
-      ∙ ap (λ (q : Bool). cond (eqb x r) q (bit t x d)) (truth-or _ _ (d % 64))
+      ∙ ap (λ (q : Bool). cond (eqb x r) q (inRow t x d)) (truth-or _ _ (d % 64))
 
-  pub copy-bit : bit (copyRow t r s) x d ≡ cond (eqb x r) (bit t s d) (bit t x d)
-  unfolding copyRow bit digit
+  pub copy-bit : inRow (copyRow t r s) x d ≡ cond (eqb x r) (inRow t s d) (inRow t x d)
+  unfolding copyRow inRow digit
   copy-bit = new-bit (λ w. getD t (s * 5 + w) 0) (getD t (s * 5) 0) (rw (add-zero (s * 5)))
 
-  pub wipe-bit : bit (wipeRow t r) x d ≡ cond (eqb x r) false (bit t x d)
+  pub wipe-bit : inRow (wipeRow t r) x d ≡ cond (eqb x r) false (inRow t x d)
   unfolding wipeRow
-  wipe-bit = new-bit (λ w. 0) 0 refl ∙ ap (λ (q : Bool). cond (eqb x r) q (bit t x d)) (truth-0 (d % 64))
+  wipe-bit = new-bit (λ w. 0) 0 refl ∙ ap (λ (q : Bool). cond (eqb x r) q (inRow t x d)) (truth-0 (d % 64))
 
 pub join-sized : (t : List ℕ) (r s : ℕ) → Sized t → Sized (joinRow t r s)
 unfolding joinRow
@@ -172,8 +172,8 @@ unfolding addCell
 add-sized t r c h = simp length-set h
 
 -- a cell comes into a row
-pub add-bit : (t : List ℕ) (r c : ℕ) → Sized t → r < 300 → c < 298 → (x d : ℕ) → d < 298 → bit (addCell t r c) x d ≡ bit t x d || (eqb x r && eqb c d)
-unfolding addCell bit digit
+pub add-bit : (t : List ℕ) (r c : ℕ) → Sized t → r < 300 → c < 298 → (x d : ℕ) → d < 298 → inRow (addCell t r c) x d ≡ inRow t x d || (eqb x r && eqb c d)
+unfolding addCell inRow digit
 add-bit t r c sized h k x d l = go (eqb x r) refl (eqb (d / 64) (c / 64)) refl
   where
     i : ℕ
@@ -182,14 +182,14 @@ add-bit t r c sized h k x d l = go (eqb x r) refl (eqb (d / 64) (c / 64)) refl
     with : List ℕ
     with = set t i (bitOr (getD t i 0) (2 ^ (c % 64)))
 
-    away : (x * 5 + d / 64 ≡ i → ⊥) → bit with x d ≡ bit t x d
+    away : (x * 5 + d / 64 ≡ i → ⊥) → inRow with x d ≡ inRow t x d
     away ne = ap (λ (y : ℕ). truth y (d % 64)) (getD-set-other t i (x * 5 + d / 64) _ 0 ne)
 
     same : (b : Bool) → eqb c d ≡ b → d / 64 ≡ c / 64 → eqb (d % 64) (c % 64) ≡ b
     same true e f = let u = eqb-true c d e in eq-eqb (d % 64) (c % 64) (omega arith)
     same false e f = let u = eqb-false c d e in ne-eqb (d % 64) (c % 64) (λ v. u (omega arith))
 
-    go : (p : Bool) → eqb x r ≡ p → (q : Bool) → eqb (d / 64) (c / 64) ≡ q → bit with x d ≡ bit t x d || (p && eqb c d)
+    go : (p : Bool) → eqb x r ≡ p → (q : Bool) → eqb (d / 64) (c / 64) ≡ q → inRow with x d ≡ inRow t x d || (p && eqb c d)
     go true p true q =
         let e = eqb-true x r p in
         let f = eqb-true (d / 64) (c / 64) q in
@@ -197,12 +197,12 @@ add-bit t r c sized h k x d l = go (eqb x r) refl (eqb (d / 64) (c / 64)) refl
         ap (λ (y : ℕ). truth y (d % 64)) (ap (λ (y : ℕ). getD with y 0) j ∙ getD-set-same t i _ 0 (omega arith))
         ∙ truth-or (getD t i 0) (2 ^ (c % 64)) (d % 64)
         ∙ ap (λ (y : ℕ). truth (getD t y 0) (d % 64) || truth (2 ^ (c % 64)) (d % 64)) (sym j)
-        ∙ ap (λ (b : Bool). bit t x d || b) (truth-pow (c % 64) (d % 64) ∙ same (eqb c d) refl f)
+        ∙ ap (λ (b : Bool). inRow t x d || b) (truth-pow (c % 64) (d % 64) ∙ same (eqb c d) refl f)
     go true p false q =
         let f = eqb-false (d / 64) (c / 64) q in
         let e = eqb-true x r p in
-        away (λ j. f (omega arith)) ∙ sym (ap (λ (b : Bool). bit t x d || b) (ne-eqb c d (λ g. f (omega arith))) ∙ or-false (bit t x d))
-    go false p q g = let e = eqb-false x r p in away (λ j. e (omega arith)) ∙ sym (or-false (bit t x d))
+        away (λ j. f (omega arith)) ∙ sym (ap (λ (b : Bool). inRow t x d || b) (ne-eqb c d (λ g. f (omega arith))) ∙ or-false (inRow t x d))
+    go false p q g = let e = eqb-false x r p in away (λ j. e (omega arith)) ∙ sym (or-false (inRow t x d))
 
 -- ---- a table of zeros
 pub zeros : (n i : ℕ) → _≡_ {A = ℕ} (getD (replicate n 0) i 0) 0
@@ -210,6 +210,6 @@ zeros zero i = refl
 zeros (suc n) zero = refl
 zeros (suc n) (suc i) = zeros n i
 
-pub zero-bit : (t : List ℕ) → ((i : ℕ) → getD t i 0 ≡ 0) → (x d : ℕ) → bit t x d ≡ false
-unfolding bit digit
+pub zero-bit : (t : List ℕ) → ((i : ℕ) → getD t i 0 ≡ 0) → (x d : ℕ) → inRow t x d ≡ false
+unfolding inRow digit
 zero-bit t h x d = ap (λ (y : ℕ). truth y (d % 64)) (h (x * 5 + d / 64)) ∙ truth-0 (d % 64)

@@ -11,9 +11,9 @@ use Rattle.reach.specs.declared.cells.Cells.{Cells}
 use Rattle.reach.specs.declared.cells.Outcome.{Outcome}
 use Rattle.reach.specs.declared.cells.Outcome.the-variants.{Done, BadShape}
 use Rattle.reach.specs.declared.cells.Reached.{Reached}
-use Rattle.reach.specs.Reach.{reachOf, reached, numberOf, Answer, answerOf, reachAnswer}
+use Rattle.reach.specs.Reach.{reachStrips, reached, numberOf, Answer, answerOf, reachAnswer}
 
-pub well-formed-reached : (run : List ℕ) (ss : List (List Entry)) (c : Cells) → shapeOk run ≡ true → decode run ≡ some ss → reachAnswer run c ≡ record { number = 0; cells = reachOf ss c }
+pub well-formed-reached : (run : List ℕ) (ss : List (List Entry)) (c : Cells) → shapeOk run ≡ true → decode run ≡ some ss → reachAnswer run c ≡ record { number = 0; cells = reachStrips ss c }
 unfolding reachAnswer reached numberOf
 well-formed-reached run ss c h d = rw (h, d)
 

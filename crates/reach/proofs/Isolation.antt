@@ -13,21 +13,20 @@ use borrow.Author.Tests.{ltb-true, ltb-false, lt-ltb, ne-eqb}
 use Rattle.strip.specs.declared.reader.Entry.{Entry}
 use Rattle.strip.specs.Format.{formatOf}
 use Rattle.strip.specs.Entry.{kindOf}
-use Rattle.strip.specs.Shape.{all, isOpen, ended, cellOk, stripOk, decode, allOk, shapeOk}
+use Rattle.strip.specs.Shape.{all, isOpen, endsOnce, cellOk, stripOk, decode, allOk, shapeOk}
 use Rattle.strip.proofs.Tests.{and-left, and-right}
 use Rattle.evaluation.specs.declared.state.State.{State}
-use Rattle.evaluation.specs.declared.machine.Outcome.{Outcome}
 use Rattle.evaluation.specs.declared.machine.Outcome.the-variants.{Done, Refused}
 use Rattle.evaluation.specs.declared.machine.Refusal.the-variants.{BadShape}
 use Rattle.evaluation.specs.declared.machine.Evaluated.{Evaluated}
 use Rattle.evaluation.specs.State.{loaded, storedReg, storedPred, storedFlag}
-use Rattle.evaluation.specs.Machine.{Effect, Push, SetReg, SetPred, SetFlag, Enter, Pass, Finish, Refuse, Midway, begun, isDone, pushed, applied, stepOf, outcomeOf, ends, onward, entriesFrom, stripsFrom, evaluated}
+use Rattle.evaluation.specs.Machine.{Effect, Push, SetReg, SetPred, SetFlag, Enter, Pass, Finish, Refuse, Midway, begun, isDone, pushed, applied, takenEffect, outcomeOf, ends, onward, entriesFrom, stripsFrom, evaluated}
 use Rattle.evaluation.specs.Cells.{stores, loads, AgreeCells, AgreeSlots}
 use Rattle.evaluation.proofs.Laws.{cond-all, entries-keep, strips-keep}
-use Rattle.evaluation.proofs.Agree.{lacking, Sizes, Loads, NoOpen, storedBy, DoneAgree, strip-both, strip-stored}
+use Rattle.evaluation.proofs.Agree.{done-lacks, Sizes, Loads, NoOpen, storedBy, DoneAgree, strip-both, strip-stored}
 use Rattle.reach.specs.declared.cells.Cells.{Cells}
-use Rattle.reach.specs.Reach.{listed, cellsOf, some, storesListed, before, rule, reachOf, reached}
-use Rattle.reach.proofs.Listed.{inside, outside, listed-cellsOf, loaded-outside, wide, wide-cellsOf, or-left, or-right, strip-leaves, slot-inside, slots-stay}
+use Rattle.reach.specs.Reach.{listed, cellsWhere, any, storesListed, before, rule, reachStrips, reached}
+use Rattle.reach.proofs.CellSets.{inside, outside, listed-where, loaded-outside, wide, wide-where, or-left, or-right, strip-leaves, slot-inside, slots-stay}
 
 -- two starts, or two ends, each a state with its lent list: they agree on the listed cells and slots
 pub record Agree (c : Cells) (s : State) (cs : List ℕ) (t : State) (ds : List ℕ) : Type 0 where
@@ -55,15 +54,15 @@ applied-sizes m Pass = same-sizes (m .state)
 applied-sizes m Finish = same-sizes (m .state)
 applied-sizes m (Refuse r) = same-sizes (m .state)
 
-abbrev Kept : State → Evaluated → Type 0
-Kept s r = Sizes (r .state) s
+abbrev Unchanged : State → Evaluated → Type 0
+Unchanged s r = Sizes (r .state) s
 
-entries-sizes : (cs : List ℕ) (m : Midway) (es : List Entry) → Kept (m .state) (entriesFrom cs m es)
+entries-sizes : (cs : List ℕ) (m : Midway) (es : List Entry) → Unchanged (m .state) (entriesFrom cs m es)
 unfolding entriesFrom
 entries-sizes cs m [] = same-sizes (m .state)
 entries-sizes cs m (e ∷ es) =
-    let f = stepOf m e cs in
-    cond-all (Kept (m .state)) (isDone (outcomeOf f)) _ _
+    let f = takenEffect m e cs in
+    cond-all (Unchanged (m .state)) (isDone (outcomeOf f)) _ _
     (sizes-chain (entriesFrom cs (applied m f) es .state) (applied m f .state) (m .state) (entries-sizes cs (applied m f) es) (applied-sizes m f))
     (same-sizes (m .state))
 
@@ -80,26 +79,21 @@ CellsOk es = all (λ e. cellOk (formatOf (kindOf e)) e) es ≡ true
 
 module _ (cs ds : List ℕ) (known : ℕ → ℕ → Bool) (agree : AgreeSlots known cs ds) where
   loads-known : (es : List Entry) → CellsOk es
-      → ((k n : ℕ) → (eqb k 10 ≡ true → ltb n 32 ≡ true) → some (loads k n) es ≡ true → known k n ≡ true) → Loads cs ds known agree es
+      → ((k n : ℕ) → (eqb k 10 ≡ true → ltb n 32 ≡ true) → any (loads k n) es ≡ true → known k n ≡ true) → Loads cs ds known agree es
   loads-known [] ok h = tt
   loads-known (e ∷ es) ok h = (
     λ k n p. h k n (slot-inside k n e (and-left (cellOk (formatOf (kindOf e)) e) _ ok) p) (rw p refl),
     loads-known es (and-right (cellOk (formatOf (kindOf e)) e) _ ok) (λ k n s p. h k n s (rw p (or-true (loads k n e)))),
   )
 
-  no-open : (es : List Entry) → some isOpen es ≡ false → NoOpen cs ds known agree es
+  no-open : (es : List Entry) → any isOpen es ≡ false → NoOpen cs ds known agree es
   no-open [] p = tt
   no-open (e ∷ es) p = (or-left (isOpen e) _ p, no-open es (or-right (isOpen e) _ p))
 
-stored-some : (es : List Entry) (k n : ℕ) → storedBy es k n ≡ some (stores k n) es
+stored-any : (es : List Entry) (k n : ℕ) → storedBy es k n ≡ any (stores k n) es
 unfolding storedBy
-stored-some [] k n = refl
-stored-some (e ∷ es) k n = ap (λ (b : Bool). stores k n e || b) (stored-some es k n)
-
-done-lacks : (o : Outcome) → isDone o ≡ true → lacking o ≡ false
-unfolding lacking
-done-lacks Done h = refl
-done-lacks (Refused r) h = absurd (false≢true h)
+stored-any [] k n = refl
+stored-any (e ∷ es) k n = ap (λ (b : Bool). stores k n e || b) (stored-any es k n)
 
 -- starts that agree on the listed cells agree on those that no state has, too
 wide-agree : (c : Cells) (s t : State) → AgreeCells (listed c) s t → AgreeCells (wide c) s t
@@ -122,58 +116,58 @@ module _ (cs ds : List ℕ) (es : List Entry) (c : Cells) (s t : State) where
   there = entriesFrom ds (begun t) es
 
   -- it stores none of the list: the listed cells stay
-  strip-idle : some (storesListed c) es ≡ false → AgreeCells (listed c) s t → AgreeCells (listed c) (here .state) (there .state)
+  strip-idle : any (storesListed c) es ≡ false → AgreeCells (listed c) s t → AgreeCells (listed c) (here .state) (there .state)
   unfolding begun
   strip-idle p a k n l h q =
       let stay = strip-leaves c k n q es p in
       entries-keep k n l h cs (begun s) es stay ∙ a k n l h q ∙ sym (entries-keep k n l h ds (begun t) es stay)
 
   -- it stores a listed cell: it has the same values from both, and so the same stores
-  module _ (ok : CellsOk es) (z : Sizes s t) (a : Agree (cellsOf (before es c)) s cs t ds)
+  module _ (ok : CellsOk es) (z : Sizes s t) (a : Agree (cellsWhere (before es c)) s cs t ds)
       (d : isDone (here .outcome) ≡ true) (e : isDone (there .outcome) ≡ true) where
     known : ℕ → ℕ → Bool
-    known = wide (cellsOf (before es c))
+    known = wide (cellsWhere (before es c))
 
     slots : AgreeSlots known cs ds
     unfolding known
-    slots = wide-slots (cellsOf (before es c)) cs ds (a .slots)
+    slots = wide-slots (cellsWhere (before es c)) cs ds (a .slots)
 
     cells : AgreeCells known s t
     unfolding known
-    cells = wide-agree (cellsOf (before es c)) s t (a .cells)
+    cells = wide-agree (cellsWhere (before es c)) s t (a .cells)
 
     all-known : Loads cs ds known slots es
     unfolding known before
     all-known =
         loads-known cs ds known slots es ok
-        (λ k n i p. wide-cellsOf (before es c) k n i (rw p (or-true (listed c k n && (some isOpen es || not (some (stores k n) es))))))
+        (λ k n i p. wide-where (before es c) k n i (rw p (or-true (listed c k n && (any isOpen es || not (any (stores k n) es))))))
 
     -- a listed cell that stayed in the list is known
-    stayed : (k n : ℕ) → k ≤ 6 → listed c k n ≡ true → some isOpen es || not (some (stores k n) es) ≡ true → known k n ≡ true
+    stayed : (k n : ℕ) → k ≤ 6 → listed c k n ≡ true → any isOpen es || not (any (stores k n) es) ≡ true → known k n ≡ true
     unfolding known before
-    stayed k n h q p = wide-cellsOf (before es c) k n (λ x. absurd (false≢true (sym (ne-eqb k 10 (λ (y : k ≡ 10). omega arith)) ∙ x))) (rw (q, p) refl)
+    stayed k n h q p = wide-where (before es c) k n (λ x. absurd (false≢true (sym (ne-eqb k 10 (λ (y : k ≡ 10). omega arith)) ∙ x))) (rw (q, p) refl)
 
     strip-works : AgreeCells (listed c) (here .state) (there .state)
-    strip-works k n l h q = go (some isOpen es) refl (some (stores k n) es) refl
+    strip-works k n l h q = go (any isOpen es) refl (any (stores k n) es) refl
       where
         same : known k n ≡ true → loaded (here .state) k n ≡ loaded (there .state) k n
         same p = strip-both cs ds known slots es all-known s t cells z (done-lacks (here .outcome) d) (done-lacks (there .outcome) e) .1 k n l h p
 
-        stored : some isOpen es ≡ false → some (stores k n) es ≡ true → loaded (here .state) k n ≡ loaded (there .state) k n
-        stored o p = strip-stored cs ds known slots es all-known (no-open cs ds known slots es o) s t cells z d e k n l h (rw (stored-some es k n, p) refl)
+        stored : any isOpen es ≡ false → any (stores k n) es ≡ true → loaded (here .state) k n ≡ loaded (there .state) k n
+        stored o p = strip-stored cs ds known slots es all-known (no-open cs ds known slots es o) s t cells z d e k n l h (rw (stored-any es k n, p) refl)
 
-        go : (o : Bool) → some isOpen es ≡ o → (b : Bool) → some (stores k n) es ≡ b → loaded (here .state) k n ≡ loaded (there .state) k n
+        go : (o : Bool) → any isOpen es ≡ o → (b : Bool) → any (stores k n) es ≡ b → loaded (here .state) k n ≡ loaded (there .state) k n
         go true o b p = same (stayed k n h q (rw o refl))
         go false o true p = stored o p
         go false o false p = same (stayed k n h q (rw (o, p) refl))
 
-  -- the list before the strip decides the list behind it
+  -- the list before the strip decides the list after it
   strip-agree : CellsOk es → Sizes s t → Agree (rule es c) s cs t ds
       → isDone (here .outcome) ≡ true → isDone (there .outcome) ≡ true → AgreeCells (listed c) (here .state) (there .state)
   unfolding rule
-  strip-agree ok z a d e = go (some (storesListed c) es) refl a
+  strip-agree ok z a d e = go (any (storesListed c) es) refl a
     where
-      go : (b : Bool) → some (storesListed c) es ≡ b → Agree (cond b (cellsOf (before es c)) c) s cs t ds → AgreeCells (listed c) (here .state) (there .state)
+      go : (b : Bool) → any (storesListed c) es ≡ b → Agree (cond b (cellsWhere (before es c)) c) s cs t ds → AgreeCells (listed c) (here .state) (there .state)
       go true p a = strip-works ok z a d e
       go false p a = strip-idle p (a .cells)
 
@@ -196,30 +190,30 @@ asked-inside c z n p = go (ltb n 32) refl
 rule-inside : (es : List Entry) (c : Cells) → SlotsInside c → SlotsInside (rule es c)
 unfolding rule inside
 rule-inside es c h =
-    cond-all SlotsInside (some (storesListed c) es) _ _
-    (λ n p. ltb-true n 32 (and-left (ltb n 32) (before es c 10 n) (sym (listed-cellsOf (before es c) 10 n) ∙ p)))
+    cond-all SlotsInside (any (storesListed c) es) _ _
+    (λ n p. ltb-true n 32 (and-left (ltb n 32) (before es c 10 n) (sym (listed-where (before es c) 10 n) ∙ p)))
     h
 
-pub reach-inside : (ss : List (List Entry)) (c : Cells) → SlotsInside c → SlotsInside (reachOf ss c)
-unfolding reachOf
+pub reach-inside : (ss : List (List Entry)) (c : Cells) → SlotsInside c → SlotsInside (reachStrips ss c)
+unfolding reachStrips
 reach-inside [] c h = h
-reach-inside (es ∷ ss) c h = rule-inside es (reachOf ss c) (reach-inside ss c h)
+reach-inside (es ∷ ss) c h = rule-inside es (reachStrips ss c) (reach-inside ss c h)
 
 rule-slots : (es : List Entry) (c : Cells) → SlotsInside c → (n : ℕ) → listed c 10 n ≡ true → listed (rule es c) 10 n ≡ true
 unfolding rule inside before
 rule-slots es c h n p =
-    cond-all (λ (d : Cells). listed d 10 n ≡ true) (some (storesListed c) es) _ _
-    (listed-cellsOf (before es c) 10 n ∙ rw (lt-ltb n 32 (h n p), p, slots-stay n es, or-true (some isOpen es)) refl)
+    cond-all (λ (d : Cells). listed d 10 n ≡ true) (any (storesListed c) es) _ _
+    (listed-where (before es c) 10 n ∙ rw (lt-ltb n 32 (h n p), p, slots-stay n es, or-true (any isOpen es)) refl)
     p
 
-pub reach-slots : (ss : List (List Entry)) (c : Cells) → SlotsInside c → (n : ℕ) → listed c 10 n ≡ true → listed (reachOf ss c) 10 n ≡ true
-unfolding reachOf
+pub reach-slots : (ss : List (List Entry)) (c : Cells) → SlotsInside c → (n : ℕ) → listed c 10 n ≡ true → listed (reachStrips ss c) 10 n ≡ true
+unfolding reachStrips
 reach-slots [] c h n p = p
-reach-slots (es ∷ ss) c h n p = rule-slots es (reachOf ss c) (reach-inside ss c h) n (reach-slots ss c h n p)
+reach-slots (es ∷ ss) c h n p = rule-slots es (reachStrips ss c) (reach-inside ss c h) n (reach-slots ss c h n p)
 
 cells-ok : (es : List Entry) → stripOk es ≡ true → CellsOk es
 unfolding stripOk
-cells-ok es p = and-left (all (λ e. cellOk (formatOf (kindOf e)) e) es) _ (and-right (leb (length es) 64) _ (and-right (ended es) _ p))
+cells-ok es p = and-left (all (λ e. cellOk (formatOf (kindOf e)) e) es) _ (and-right (leb (length es) 64) _ (and-right (endsOnce es) _ p))
 
 -- where two parts are done, the first is
 first-done : (r : Evaluated) (next : State → Evaluated) → isDone (onward r next .outcome) ≡ true → isDone (r .outcome) ≡ true
@@ -230,17 +224,17 @@ first-done r next p = go (isDone (r .outcome)) refl
     go false q = rw q at p
 
 strips-agree : (cs ds : List ℕ) (c : Cells) → SlotsInside c → (ss : List (List Entry)) → all stripOk ss ≡ true
-    → (s t : State) → Sizes s t → Agree (reachOf ss c) s cs t ds → DoneAgree (listed c) (stripsFrom cs s ss) (stripsFrom ds t ss)
-unfolding stripsFrom reachOf
+    → (s t : State) → Sizes s t → Agree (reachStrips ss c) s cs t ds → DoneAgree (listed c) (stripsFrom cs s ss) (stripsFrom ds t ss)
+unfolding stripsFrom reachStrips
 strips-agree cs ds c i [] ok s t z a p q = a .cells
 strips-agree cs ds c i (es ∷ ss) ok s t z a p q =
     let p1 = first-done (entriesFrom cs (begun s) es) (λ u. stripsFrom cs u ss) p in
     let q1 = first-done (entriesFrom ds (begun t) es) (λ u. stripsFrom ds u ss) q in
     let u = entriesFrom cs (begun s) es .state in
     let v = entriesFrom ds (begun t) es .state in
-    let cells = strip-agree cs ds es (reachOf ss c) s t (cells-ok es (and-left (stripOk es) _ ok)) z a p1 q1 in
-    let slots : AgreeSlots (listed (reachOf ss c)) cs ds = λ n w l. a .slots n w (rule-slots es (reachOf ss c) (reach-inside ss c i) n l) in
-    let next : Agree (reachOf ss c) u cs v ds = record { cells = cells; slots = slots } in
+    let cells = strip-agree cs ds es (reachStrips ss c) s t (cells-ok es (and-left (stripOk es) _ ok)) z a p1 q1 in
+    let slots : AgreeSlots (listed (reachStrips ss c)) cs ds = λ n w l. a .slots n w (rule-slots es (reachStrips ss c) (reach-inside ss c i) n l) in
+    let next : Agree (reachStrips ss c) u cs v ds = record { cells = cells; slots = slots } in
     let rest = strips-agree cs ds c i ss (and-right (stripOk es) _ ok) u v (strip-sizes cs ds s t es z) next in
     rw (p1, q1) (rest (rw p1 at p) (rw q1 at q))
 
@@ -285,7 +279,7 @@ pub record Starts (run : List ℕ) (list : Cells) (s : State) (cs : List ℕ) (t
 -- Starts that agree on the list of the rule have ends that agree on the asked cells. Nothing else is asked of the run: one that is done
 -- passed the shape test. Of the asked cells' lists only the slots' length matters, since no state has a register past the last.
 pub isolation-strips : (run : List ℕ) (c : Cells) → length (c .slots) ≡ 32 → (s t : State) (cs ds : List ℕ)
-    → Starts run (reachOf (strips run) c) s cs t ds → Agree c (evaluated run s cs .state) cs (evaluated run t ds .state) ds
+    → Starts run (reachStrips (strips run) c) s cs t ds → Agree c (evaluated run s cs .state) cs (evaluated run t ds .state) ds
 isolation-strips run c z s t cs ds a =
     let i = asked-inside c z in
     let one = accepted run s cs (a .one) in
@@ -303,21 +297,21 @@ isolation run c z s t cs ds a =
 
 -- some strip of the run stores cell n of kind k
 abbrev pub storedIn : List ℕ → ℕ → ℕ → Bool
-storedIn run k n = some (λ es. some (stores k n) es) (strips run)
+storedIn run k n = any (λ es. any (stores k n) es) (strips run)
 
-none-stores : (k n : ℕ) (es : List Entry) → some (stores k n) es ≡ false → all (λ e. not (stores k n e)) es ≡ true
+none-stores : (k n : ℕ) (es : List Entry) → any (stores k n) es ≡ false → all (λ e. not (stores k n e)) es ≡ true
 none-stores k n [] p = refl
 none-stores k n (e ∷ es) p = rw (or-left (stores k n e) _ p) (none-stores k n es (or-right (stores k n e) _ p))
 
-none-store : (k n : ℕ) (ss : List (List Entry)) → some (λ es. some (stores k n) es) ss ≡ false → all (λ es. all (λ e. not (stores k n e)) es) ss ≡ true
+none-store : (k n : ℕ) (ss : List (List Entry)) → any (λ es. any (stores k n) es) ss ≡ false → all (λ es. all (λ e. not (stores k n e)) es) ss ≡ true
 none-store k n [] p = refl
-none-store k n (es ∷ ss) p = rw (none-stores k n es (or-left (some (stores k n) es) _ p)) (none-store k n ss (or-right (some (stores k n) es) _ p))
+none-store k n (es ∷ ss) p = rw (none-stores k n es (or-left (any (stores k n) es) _ p)) (none-store k n ss (or-right (any (stores k n) es) _ p))
 
 -- A cell that no strip of the run stores is as it was, whatever the run and the answer.
-pub kept : (run : List ℕ) (s : State) (cs : List ℕ) (k n : ℕ) → 4 ≤ k → k ≤ 6 → storedIn run k n ≡ false
+pub unchanged : (run : List ℕ) (s : State) (cs : List ℕ) (k n : ℕ) → 4 ≤ k → k ≤ 6 → storedIn run k n ≡ false
     → loaded (evaluated run s cs .state) k n ≡ loaded s k n
 unfolding evaluated
-kept run s cs k n l h p =
+unchanged run s cs k n l h p =
     cond-all Same (shapeOk run) _ _
     (cond-all Same (isDone (stripsFrom cs s (strips run) .outcome)) _ _ (strips-keep k n l h cs s (strips run) (none-store k n (strips run) p)) refl)
     refl

@@ -1,10 +1,10 @@
-pub mod Listed
-pub mod Isolation
 pub mod Truths
+pub mod CellSets
+pub mod Isolation
 pub mod Bits
 pub mod Lists
 pub mod Scan
-pub mod Column
+pub mod TableReach
 pub mod Pass
-pub mod Shown
+pub mod ListedCells
 pub mod Demand1

@@ -11,7 +11,7 @@ use lib.ListN.{length, getD, length-append, List·getD-append}
 use lib.Seq.{ext-getD, getD-append-seam}
 use borrow.Author.Tests.{eqb-true, eqb-false, eq-eqb}
 use Rattle.reach.specs.Reach.{table}
-use Rattle.reach.specs.Rows.{any}
+use Rattle.reach.specs.Rows.{anyBelow}
 
 pub same-truth : (a b : Bool) → (a ≡ true → b ≡ true) → (b ≡ true → a ≡ true) → a ≡ b
 same-truth true b f g = sym (f refl)
@@ -24,27 +24,27 @@ or-elim false b h f g = g h
 
 -- ---- one of the first n numbers passes
 
-pub any-intro : (n : ℕ) (f : ℕ → Bool) (i : ℕ) → i < n → f i ≡ true → any n f ≡ true
-unfolding any
+pub any-intro : (n : ℕ) (f : ℕ → Bool) (i : ℕ) → i < n → f i ≡ true → anyBelow n f ≡ true
+unfolding anyBelow
 any-intro zero f i h p = absurd (not-suc-le-zero h)
 any-intro (suc n) f i h p = go (eqb i n) refl (any-intro n f i)
   where
-    go : (b : Bool) → eqb i n ≡ b → (i < n → f i ≡ true → any n f ≡ true) → any n f || f n ≡ true
-    go true q ih = rw (sym (ap f (eqb-true i n q)) ∙ p) (or-true (any n f))
+    go : (b : Bool) → eqb i n ≡ b → (i < n → f i ≡ true → anyBelow n f ≡ true) → anyBelow n f || f n ≡ true
+    go true q ih = rw (sym (ap f (eqb-true i n q)) ∙ p) (or-true (anyBelow n f))
     go false q ih = rw (ih (omega (arith, eqb-false i n q)) p)
 
-pub any-elim : {C : Type 0} (n : ℕ) (f : ℕ → Bool) → any n f ≡ true → ((i : ℕ) → i < n → f i ≡ true → C) → C
-unfolding any
+pub any-elim : {C : Type 0} (n : ℕ) (f : ℕ → Bool) → anyBelow n f ≡ true → ((i : ℕ) → i < n → f i ≡ true → C) → C
+unfolding anyBelow
 any-elim zero f h k = absurd (false≢true h)
-any-elim (suc n) f h k = or-elim (any n f) (f n) h (λ p. any-elim n f p (λ i l. k i (omega arith))) (k n (omega arith))
+any-elim (suc n) f h k = or-elim (anyBelow n f) (f n) h (λ p. any-elim n f p (λ i l. k i (omega arith))) (k n (omega arith))
 
-pub any-cong : (n : ℕ) (f g : ℕ → Bool) → ((i : ℕ) → i < n → f i ≡ g i) → any n f ≡ any n g
-unfolding any
+pub any-cong : (n : ℕ) (f g : ℕ → Bool) → ((i : ℕ) → i < n → f i ≡ g i) → anyBelow n f ≡ anyBelow n g
+unfolding anyBelow
 any-cong zero f g h = refl
 any-cong (suc n) f g h = rw (any-cong n f g (λ i l. h i (omega arith)), h n (omega arith))
 
-pub any-none : (n : ℕ) (f : ℕ → Bool) → ((i : ℕ) → i < n → f i ≡ false) → any n f ≡ false
-unfolding any
+pub any-none : (n : ℕ) (f : ℕ → Bool) → ((i : ℕ) → i < n → f i ≡ false) → anyBelow n f ≡ false
+unfolding anyBelow
 any-none zero f h = refl
 any-none (suc n) f h = rw (any-none n f (λ i l. h i (omega arith)), h n (omega arith))
 
@@ -53,13 +53,13 @@ or-swap true b c d = refl
 or-swap false b true d = or-true b
 or-swap false b false d = refl
 
-pub any-or : (n : ℕ) (f g : ℕ → Bool) → any n (λ i. f i || g i) ≡ any n f || any n g
-unfolding any
+pub any-or : (n : ℕ) (f g : ℕ → Bool) → anyBelow n (λ i. f i || g i) ≡ anyBelow n f || anyBelow n g
+unfolding anyBelow
 any-or zero f g = refl
-any-or (suc n) f g = rw (any-or n f g) (or-swap (any n f) (any n g) (f n) (g n))
+any-or (suc n) f g = rw (any-or n f g) (or-swap (anyBelow n f) (anyBelow n g) (f n) (g n))
 
 -- the test that only x passes
-pub any-one : (n x : ℕ) (f : ℕ → Bool) → x < n → any n (λ i. eqb i x && f i) ≡ f x
+pub any-one : (n x : ℕ) (f : ℕ → Bool) → x < n → anyBelow n (λ i. eqb i x && f i) ≡ f x
 any-one n x f h = same-truth _ _ (λ p. any-elim n _ p (λ i l q. one i (eqb i x) refl q)) (λ p. any-intro n _ x h (rw (eq-eqb x x refl) p))
   where
     one : (i : ℕ) (b : Bool) → eqb i x ≡ b → b && f i ≡ true → f x ≡ true
@@ -67,12 +67,12 @@ any-one n x f h = same-truth _ _ (λ p. any-elim n _ p (λ i l q. one i (eqb i x
     one i false e q = absurd (false≢true q)
 
 -- the first m + n numbers
-pub any-add : (m n : ℕ) (f : ℕ → Bool) → any (m + n) f ≡ any m f || any n (λ i. f (m + i))
-unfolding any
-any-add m zero f = let e : m + 0 ≡ m = omega arith in rw e (sym (or-false (any m f)))
+pub any-add : (m n : ℕ) (f : ℕ → Bool) → anyBelow (m + n) f ≡ anyBelow m f || anyBelow n (λ i. f (m + i))
+unfolding anyBelow
+any-add m zero f = let e : m + 0 ≡ m = omega arith in rw e (sym (or-false (anyBelow m f)))
 any-add m (suc n) f =
     let e : m + suc n ≡ suc (m + n) = omega arith in
-    rw (e, any-add m n f) (or-assoc (any m f) (any n (λ i. f (m + i))) (f (m + n)))
+    rw (e, any-add m n f) (or-assoc (anyBelow m f) (anyBelow n (λ i. f (m + i))) (f (m + n)))
 
 -- ---- the first n truths of a test
 
@@ -81,10 +81,10 @@ unfolding table
 table-length zero f = refl
 table-length (suc n) f = length-append (table n f) (f n ∷ []) ∙ rw (table-length n f) (add-one n)
 
-pub table-at : (n : ℕ) (f : ℕ → Bool) (i : ℕ) → i < n → getD (table n f) i false ≡ f i
+pub table-in : (n : ℕ) (f : ℕ → Bool) (i : ℕ) → i < n → getD (table n f) i false ≡ f i
 unfolding table
-table-at zero f i h = absurd (not-suc-le-zero h)
-table-at (suc n) f i h = go (eqb i n) refl (table-at n f i)
+table-in zero f i h = absurd (not-suc-le-zero h)
+table-in (suc n) f i h = go (eqb i n) refl (table-in n f i)
   where
     go : (b : Bool) → eqb i n ≡ b → (i < n → getD (table n f) i false ≡ f i) → getD (table n f ++ (f n ∷ [])) i false ≡ f i
     go true q ih =
@@ -98,7 +98,7 @@ table-at (suc n) f i h = go (eqb i n) refl (table-at n f i)
 pub table-is : (l : List Bool) (n : ℕ) (f : ℕ → Bool) → length l ≡ n → ((i : ℕ) → i < n → f i ≡ getD l i false) → table n f ≡ l
 table-is l n f e h =
     ext-getD false (table n f) l (table-length n f ∙ sym e)
-    (λ i k. let j : i < n = rw table-length at k in table-at n f i j ∙ h i j)
+    (λ i k. let j : i < n = rw table-length at k in table-in n f i j ∙ h i j)
 
 -- an element that is true lies in the list
 pub true-within : (l : List Bool) (i : ℕ) → getD l i false ≡ true → i < length l

@@ -7,7 +7,7 @@ use Prim.Native.Nat.{ℕ, zero, suc}
 use lib.Dec.{eqb}
 use lib.ListN.{getD}
 use Rattle.strip.specs.declared.reader.Entry.{Entry}
-use Rattle.strip.specs.declared.reader.Entry.the-variants as Of
+use Rattle.strip.specs.declared.reader.Entry.the-variants as Entry
 use Rattle.strip.specs.Shape.{isOpen, decode, shapeOk}
 use Rattle.evaluation.specs.Cells.{storeKind, stores, loads}
 use Rattle.reach.specs.declared.cells.Cells.{Cells}
@@ -28,44 +28,44 @@ table zero f = []
 table (suc n) f = table n f ++ (f n ∷ [])
 
 -- the cells that pass a test
-unfoldable pub cellsOf : (ℕ → ℕ → Bool) → Cells
-cellsOf f = record { regs = table 255 (f 4); preds = table 7 (f 5); flags = table 4 (f 6); slots = table 32 (f 10) }
+unfoldable pub cellsWhere : (ℕ → ℕ → Bool) → Cells
+cellsWhere f = record { regs = table 255 (f 4); preds = table 7 (f 5); flags = table 4 (f 6); slots = table 32 (f 10) }
 
 -- ---- one strip
 
-abbrev pub some {ℓ} : {A : Type ℓ} → (A → Bool) → List A → Bool
-some f [] = false
-some f (x ∷ xs) = f x || some f xs
+abbrev pub any {ℓ} : {A : Type ℓ} → (A → Bool) → List A → Bool
+any f [] = false
+any f (x ∷ xs) = f x || any f xs
 
 -- the entry stores a listed cell
 unfoldable pub storesListed : Cells → Entry → Bool
-storesListed c (Of.Bare j) = false
-storesListed c (Of.Word w) = false
-storesListed c (Of.Cell j i) = false
-storesListed c (Of.Store j i r) = listed c (storeKind j) i
-storesListed c (Of.One j a) = false
-storesListed c (Of.Two j a b) = false
-storesListed c (Of.Three j a b d) = false
-storesListed c (Of.Four j a b d e) = false
+storesListed c (Entry.Bare j) = false
+storesListed c (Entry.Word w) = false
+storesListed c (Entry.Cell j i) = false
+storesListed c (Entry.Store j i r) = listed c (storeKind j) i
+storesListed c (Entry.One j a) = false
+storesListed c (Entry.Two j a b) = false
+storesListed c (Entry.Three j a b d) = false
+storesListed c (Entry.Four j a b d e) = false
 
 -- a listed cell stays unless the strip stores it without a block; what it loads comes in
 unfoldable pub before : List Entry → Cells → ℕ → ℕ → Bool
-before es c k n = (listed c k n && (some isOpen es || not (some (stores k n) es))) || some (loads k n) es
+before es c k n = (listed c k n && (any isOpen es || not (any (stores k n) es))) || any (loads k n) es
 
 unfoldable pub rule : List Entry → Cells → Cells
-rule es c = cond (some (storesListed c) es) (cellsOf (before es c)) c
+rule es c = cond (any (storesListed c) es) (cellsWhere (before es c)) c
 
 -- ---- a run
 
 -- from the last strip back
-unfoldable pub reachOf : List (List Entry) → Cells → Cells
-reachOf [] c = c
-reachOf (es ∷ ss) c = rule es (reachOf ss c)
+unfoldable pub reachStrips : List (List Entry) → Cells → Cells
+reachStrips [] c = c
+reachStrips (es ∷ ss) c = rule es (reachStrips ss c)
 
--- a run that is not in order is refused, with the asked cells
+-- a run that is not well-formed is refused, with the asked cells
 unfoldable pub reached : List ℕ → Cells → Reached
 reached run c =
-    cond (shapeOk run) (record { cells = reachOf (Option·getD (decode run) []) c; outcome = Done }) (record { cells = c; outcome = BadShape })
+    cond (shapeOk run) (record { cells = reachStrips (Option·getD (decode run) []) c; outcome = Done }) (record { cells = c; outcome = BadShape })
 
 -- ---- the answer: 01's number, and the cells
 

@@ -10,7 +10,7 @@ pub struct Cells {
 
 pub enum Outcome {
     Done,
-    // The run is not in order: 01's refusal 7.
+    // The run is not well-formed: 01's refusal 7.
     BadShape,
 }
 

@@ -5,12 +5,12 @@ ghost use mathlib.Core.Bool.{false, cond, _&&_};
 ghost use Prim.Native.Nat.{ℕ, _+_, _/_, _%_, _^_, _≤_, _<_};
 ghost use lib.ListN.{length};
 ghost use Rattle.reach.specs.Reach.{table};
-ghost use Rattle.reach.specs.Rows.{Sized, bit, setRow, joinRow, copyRow, wipeRow, addCell, owned, loaded, stored, settled, gathered, shownAt};
+ghost use Rattle.reach.specs.Rows.{Sized, inRow, setRow, joinRow, copyRow, wipeRow, addCell, owned, rowsLoaded, rowsStored, rowsStoredAll, gathered, listedAt};
 
 // Cell d is in the row.
 fn has(rows: &[u64], row: usize, d: usize) -> bool
     requires { ⌜ Sized (now rows) × ((row < 300) × (d < 298)) ⌝ }
-    ensures { λ r. ⌜ r ≡ bit (now (rows .entry)) row d ⌝ }
+    ensures { λ r. ⌜ r ≡ inRow (now (rows .entry)) row d ⌝ }
 {
     (rows[row * 5 + d / 64] >> (d % 64)) % 2 == 1
 }
@@ -88,7 +88,7 @@ fn own(rows: &mut [u64], c: usize)
 // What a loaded cell lists is collected. Number 298 is no cell.
 pub fn load(rows: &mut [u64], c: usize)
     requires { ⌜ Sized (now rows) ⌝ }
-    ensures { λ _. ⌜ now (rows .exit) ≡ loaded (now (rows .entry)) c ⌝ }
+    ensures { λ _. ⌜ now (rows .exit) ≡ rowsLoaded (now (rows .entry)) c ⌝ }
 {
     if 298 <= c {
         return;
@@ -103,7 +103,7 @@ pub fn load(rows: &mut [u64], c: usize)
 // The row of a cell that a strip stores. Number 298 is no cell.
 fn store(rows: &mut [u64], c: usize, block: bool)
     requires { ⌜ Sized (now rows) ⌝ }
-    ensures { λ _. ⌜ now (rows .exit) ≡ stored block (now (rows .entry)) c ⌝ }
+    ensures { λ _. ⌜ now (rows .exit) ≡ rowsStored block (now (rows .entry)) c ⌝ }
 {
     if 298 <= c {
         return;
@@ -117,9 +117,9 @@ fn store(rows: &mut [u64], c: usize, block: bool)
 }
 
 // The rows of the first n of the cells that a strip stores.
-pub fn settle(rows: &mut [u64], cells: &[usize], n: usize, block: bool)
+pub fn store_all(rows: &mut [u64], cells: &[usize], n: usize, block: bool)
     requires { ⌜ Sized (now rows) × (n ≤ length (now cells)) ⌝ }
-    ensures { λ _. ⌜ now (rows .exit) ≡ settled block (now (rows .entry)) (now (cells .entry)) n ⌝ }
+    ensures { λ _. ⌜ now (rows .exit) ≡ rowsStoredAll block (now (rows .entry)) (now (cells .entry)) n ⌝ }
 {
     let mut i = 0;
     while i < n {
@@ -139,7 +139,7 @@ fn low_zeros(w: u64, most: usize) -> usize
 // From d up to this number row 299 has no cell.
 fn next(rows: &[u64], d: usize) -> usize
     requires { ⌜ Sized (now rows) × (d ≤ 298) ⌝ }
-    ensures { λ r. ⌜ (d ≤ r) × ((j : ℕ) → d ≤ j → j < r → bit (now (rows .entry)) 299 j ≡ false) ⌝ }
+    ensures { λ r. ⌜ (d ≤ r) × ((j : ℕ) → d ≤ j → j < r → inRow (now (rows .entry)) 299 j ≡ false) ⌝ }
 {
     let k = d % 64;
     d + low_zeros(rows[1495 + d / 64] >> k, 64 - k)
@@ -147,7 +147,7 @@ fn next(rows: &[u64], d: usize) -> usize
 
 fn collect(rows: &mut [u64], listed: bool, c: usize)
     requires { ⌜ Sized (now rows) × (c < 298) ⌝ }
-    ensures { λ _. ⌜ now (rows .exit) ≡ cond (listed && bit (now (rows .entry)) 299 c) (joinRow (now (rows .entry)) 298 c) (now (rows .entry)) ⌝ }
+    ensures { λ _. ⌜ now (rows .exit) ≡ cond (listed && inRow (now (rows .entry)) 299 c) (joinRow (now (rows .entry)) 298 c) (now (rows .entry)) ⌝ }
 {
     if listed {
         if has(rows, 299, c) {
@@ -168,9 +168,9 @@ pub fn gather(rows: &mut [u64], cells: &[bool], first: usize)
     }
 }
 
-fn shown(rows: &[u64], d: usize, asked: bool) -> bool
+fn is_listed(rows: &[u64], d: usize, asked: bool) -> bool
     requires { ⌜ Sized (now rows) × (d < 298) ⌝ }
-    ensures { λ r. ⌜ r ≡ cond (bit (now (rows .entry)) 299 d) (bit (now (rows .entry)) 298 d) asked ⌝ }
+    ensures { λ r. ⌜ r ≡ cond (inRow (now (rows .entry)) 299 d) (inRow (now (rows .entry)) 298 d) asked ⌝ }
 {
     if has(rows, 299, d) {
         has(rows, 298, d)
@@ -180,13 +180,13 @@ fn shown(rows: &[u64], d: usize, asked: bool) -> bool
 }
 
 // Which cells are listed in the end, from number first on.
-pub fn spread(rows: &[u64], cells: &mut [bool], first: usize)
+pub fn list_from(rows: &[u64], cells: &mut [bool], first: usize)
     requires { ⌜ Sized (now rows) × (first + length (now cells) ≤ 298) ⌝ }
-    ensures { λ _. ⌜ now (cells .exit) ≡ table (length (now (cells .entry))) (shownAt (now (rows .entry)) first (now (cells .entry))) ⌝ }
+    ensures { λ _. ⌜ now (cells .exit) ≡ table (length (now (cells .entry))) (listedAt (now (rows .entry)) first (now (cells .entry))) ⌝ }
 {
     let mut i = next(rows, first) - first;
     while i < cells.len() {
-        cells[i] = shown(rows, first + i, cells[i]);
+        cells[i] = is_listed(rows, first + i, cells[i]);
         i = next(rows, first + i + 1) - first;
     }
 }

@@ -5,24 +5,24 @@ ghost use mathlib.Core.List.{List};
 ghost use Prim.Native.Nat.{ℕ, _+_, _≤_, _<_};
 ghost use lib.ListN.{length, getD};
 ghost use Rattle.reach.specs.Reach.{answerOf, reachAnswer};
-ghost use Rattle.reach.specs.Rows.{Sized, Passed, Kept, Steps, Whole, placed, loadPlace, storePlace, none, cellsIn, collected, shown};
+ghost use Rattle.reach.specs.Rows.{Sized, Passed, Lengths, RowSteps, Whole, cellNumber, loadPlace, storePlace, emptySummary, makeCells, collected, listedCells};
 use crate::cells::Cells;
 use crate::cells::Outcome;
 use crate::cells::Reached;
 use crate::rows::gather;
 use crate::rows::join;
+use crate::rows::list_from;
 use crate::rows::load;
-use crate::rows::settle;
-use crate::rows::spread;
+use crate::rows::store_all;
 use crate::rows::wipe;
 use strip::Entry;
 use strip::Read;
 use strip::Shape;
 
 // The number of cell n of those from first on; 298 where it is out of their range.
-fn placed(n: u8, limit: u8, first: usize) -> usize
+fn cell_number(n: u8, limit: u8, first: usize) -> usize
     requires { ⌜ first + limit ≤ 298 ⌝ }
-    ensures { λ r. ⌜ r ≡ placed n limit first ⌝ }
+    ensures { λ r. ⌜ r ≡ cellNumber n limit first ⌝ }
 {
     if n < limit { first + n as usize } else { 298 }
 }
@@ -32,18 +32,18 @@ fn load_place(k: u8, n: u8) -> usize
     ensures { λ r. ⌜ r ≡ loadPlace k n ⌝ }
 {
     if k == 4 {
-        return placed(n, 255, 0);
+        return cell_number(n, 255, 0);
     }
     if k == 5 {
-        return placed(n, 7, 255);
+        return cell_number(n, 7, 255);
     }
     if k == 10 {
-        return placed(n, 32, 266);
+        return cell_number(n, 32, 266);
     }
     if k == 110 {
         return 298;
     }
-    placed(n, 4, 262)
+    cell_number(n, 4, 262)
 }
 
 // Of the cell that an entry stores.
@@ -51,46 +51,46 @@ fn store_place(k: u8, n: u8) -> usize
     ensures { λ r. ⌜ r ≡ storePlace k n ⌝ }
 {
     if k == 7 {
-        return placed(n, 255, 0);
+        return cell_number(n, 255, 0);
     }
     if k == 8 {
-        return placed(n, 7, 255);
+        return cell_number(n, 7, 255);
     }
-    placed(n, 4, 262)
+    cell_number(n, 4, 262)
 }
 
 // Of the strip so far: how many cells it stores, and whether it holds an open.
-struct Seen {
+struct StripSummary {
     count: usize,
     block: bool,
 }
 
-impl Seen {
-    fn none() -> Seen
-        ensures { λ r. ⌜ r ≡ none ⌝ }
+impl StripSummary {
+    fn empty() -> StripSummary
+        ensures { λ r. ⌜ r ≡ emptySummary ⌝ }
     {
-        Seen {
+        StripSummary {
             count: 0,
             block: false,
         }
     }
 
     // True, false, close, end. At the end the stored cells get what was collected, and a strip begins.
-    fn bare(self, k: u8, rows: &mut [u64], stored: &[usize]) -> Seen
-        requires { ⌜ Kept (now rows) (now stored) × (self .count < 64) ⌝ }
-        ensures { λ r. ⌜ Steps (now (rows .entry)) (now (stored .entry)) self (Entry.Bare k) (now (rows .exit)) (now (stored .entry)) r ⌝ }
+    fn bare(self, k: u8, rows: &mut [u64], stored: &[usize]) -> StripSummary
+        requires { ⌜ Lengths (now rows) (now stored) × (self .count < 64) ⌝ }
+        ensures { λ r. ⌜ RowSteps (now (rows .entry)) (now (stored .entry)) self (Entry.Bare k) (now (rows .exit)) (now (stored .entry)) r ⌝ }
     {
         if k == 255 {
-            settle(rows, stored, self.count, self.block);
+            store_all(rows, stored, self.count, self.block);
             wipe(rows, 298);
-            return Seen::none();
+            return StripSummary::empty();
         }
         self
     }
 
-    fn store(mut self, k: u8, n: u8, stored: &mut [usize]) -> Seen
+    fn store(mut self, k: u8, n: u8, stored: &mut [usize]) -> StripSummary
         requires { ⌜ (length (now stored) ≡ 64) × (self .count < 64) ⌝ }
-        ensures { λ r. ⌜ ((t : List ℕ) (a : ℕ) → Steps t (now (stored .entry)) self (Entry.Store k n a) t (now (stored .exit)) r) ⌝ }
+        ensures { λ r. ⌜ ((t : List ℕ) (a : ℕ) → RowSteps t (now (stored .entry)) self (Entry.Store k n a) t (now (stored .exit)) r) ⌝ }
     {
         let m = self.count;
         stored[m] = store_place(k, n);
@@ -98,8 +98,8 @@ impl Seen {
         self
     }
 
-    fn one(mut self, k: u8) -> Seen
-        ensures { λ r. ⌜ ((t cs : List ℕ) (a : ℕ) → Steps t cs self (Entry.One k a) t cs r) ⌝ }
+    fn one(mut self, k: u8) -> StripSummary
+        ensures { λ r. ⌜ ((t cs : List ℕ) (a : ℕ) → RowSteps t cs self (Entry.One k a) t cs r) ⌝ }
     {
         if k == 100 {
             self.block = true;
@@ -108,9 +108,9 @@ impl Seen {
     }
 
     // An entry that was read.
-    fn step(self, e: Entry, rows: &mut [u64], stored: &mut [usize]) -> Seen
-        requires { ⌜ Kept (now rows) (now stored) × (self .count < 64) ⌝ }
-        ensures { λ r. ⌜ Steps (now (rows .entry)) (now (stored .entry)) self e (now (rows .exit)) (now (stored .exit)) r ⌝ }
+    fn step(self, e: Entry, rows: &mut [u64], stored: &mut [usize]) -> StripSummary
+        requires { ⌜ Lengths (now rows) (now stored) × (self .count < 64) ⌝ }
+        ensures { λ r. ⌜ RowSteps (now (rows .entry)) (now (stored .entry)) self e (now (rows .exit)) (now (stored .exit)) r ⌝ }
     {
         match e {
             Entry::Bare(k) => return self.bare(k, rows, stored),
@@ -128,13 +128,13 @@ impl Seen {
     }
 }
 
-// The strips of a run, each entry behind its step of the shape test; whether the run is in order.
+// The strips of a run, each entry after its step of the shape test; whether the run is well-formed.
 fn pass(run: &[u8], rows: &mut [u64]) -> bool
     requires { ⌜ Sized (now rows) × ((i : ℕ) → getD (now rows) i 0 ≡ 0) ⌝ }
     ensures { λ r. ⌜ Passed (now (rows .exit)) (now (run .entry)) r ⌝ }
 {
     let mut stored = [0usize; 64];
-    let mut s = Seen::none();
+    let mut s = StripSummary::empty();
     let mut g = Shape::new();
     let mut at = 0;
     while at < run.len() {
@@ -155,8 +155,8 @@ fn pass(run: &[u8], rows: &mut [u64]) -> bool
 
 // The rows of the asked cells, collected; row 299 has these cells too.
 fn collect_asked(rows: &mut [u64], regs: &[bool], preds: &[bool], flags: &[bool], slots: &[bool])
-    requires { ⌜ Sized (now rows) × Whole (cellsIn (now regs) (now preds) (now flags) (now slots)) ⌝ }
-    ensures { λ _. ⌜ now (rows .exit) ≡ collected (now (rows .entry)) (cellsIn (now (regs .entry)) (now (preds .entry)) (now (flags .entry)) (now (slots .entry))) ⌝ }
+    requires { ⌜ Sized (now rows) × Whole (makeCells (now regs) (now preds) (now flags) (now slots)) ⌝ }
+    ensures { λ _. ⌜ now (rows .exit) ≡ collected (now (rows .entry)) (makeCells (now (regs .entry)) (now (preds .entry)) (now (flags .entry)) (now (slots .entry))) ⌝ }
 {
     gather(rows, regs, 0);
     gather(rows, preds, 255);
@@ -166,27 +166,33 @@ fn collect_asked(rows: &mut [u64], regs: &[bool], preds: &[bool], flags: &[bool]
 }
 
 // What is collected, as cells, beside the asked ones that have no row.
-fn show(rows: &[u64], regs: &mut [bool], preds: &mut [bool], flags: &mut [bool], slots: &mut [bool])
-    requires { ⌜ Sized (now rows) × Whole (cellsIn (now regs) (now preds) (now flags) (now slots)) ⌝ }
-    ensures { λ _. ⌜ cellsIn (now (regs .exit)) (now (preds .exit)) (now (flags .exit)) (now (slots .exit)) ≡ shown (now (rows .entry)) (cellsIn (now (regs .entry)) (now (preds .entry)) (now (flags .entry)) (now (slots .entry))) ⌝ }
+fn list_cells(
+    rows: &[u64],
+    regs: &mut [bool],
+    preds: &mut [bool],
+    flags: &mut [bool],
+    slots: &mut [bool],
+)
+    requires { ⌜ Sized (now rows) × Whole (makeCells (now regs) (now preds) (now flags) (now slots)) ⌝ }
+    ensures { λ _. ⌜ makeCells (now (regs .exit)) (now (preds .exit)) (now (flags .exit)) (now (slots .exit)) ≡ listedCells (now (rows .entry)) (makeCells (now (regs .entry)) (now (preds .entry)) (now (flags .entry)) (now (slots .entry))) ⌝ }
 {
-    spread(rows, regs, 0);
-    spread(rows, preds, 255);
-    spread(rows, flags, 262);
-    spread(rows, slots, 266);
+    list_from(rows, regs, 0);
+    list_from(rows, preds, 255);
+    list_from(rows, flags, 262);
+    list_from(rows, slots, 266);
 }
 
 // The cells that the asked ones list.
-fn answer(rows: &mut [u64], asked: Cells) -> Reached
+fn reached_cells(rows: &mut [u64], asked: Cells) -> Reached
     requires { ⌜ Sized (now rows) ⌝ }
-    ensures { λ r. ⌜ r ≡ record { cells = shown (collected (now (rows .entry)) asked) asked; outcome = Outcome.Done } ⌝ }
+    ensures { λ r. ⌜ r ≡ record { cells = listedCells (collected (now (rows .entry)) asked) asked; outcome = Outcome.Done } ⌝ }
 {
     let mut regs = asked.regs;
     let mut preds = asked.preds;
     let mut flags = asked.flags;
     let mut slots = asked.slots;
     collect_asked(rows, &regs, &preds, &flags, &slots);
-    show(rows, &mut regs, &mut preds, &mut flags, &mut slots);
+    list_cells(rows, &mut regs, &mut preds, &mut flags, &mut slots);
     Reached {
         cells: Cells {
             regs: regs,
@@ -198,13 +204,13 @@ fn answer(rows: &mut [u64], asked: Cells) -> Reached
     }
 }
 
-// The cells at the start of a run that can matter to the asked ones at its end. A run that is not in order is refused, with the asked cells.
+// The cells at the start of a run that can matter to the asked ones at its end. A run that is not well-formed is refused, with the asked cells.
 pub fn reach(run: &[u8], asked: Cells) -> Reached
     ensures { λ r. ⌜ answerOf r ≡ reachAnswer (now (run .entry)) asked ⌝ }
 {
     let mut rows = [0u64; 1500];
     if pass(run, &mut rows) {
-        return answer(&mut rows, asked);
+        return reached_cells(&mut rows, asked);
     }
     Reached {
         cells: asked,

@@ -36,7 +36,7 @@ fn fill(room: &mut [u8]) {
     }
 }
 
-// The byte that has to stand at a place: the strip's, or behind it the pattern's.
+// The byte that has to stand at a place: the strip's, or after it the pattern's.
 fn expected_byte(strip: &[u8], i: usize) -> u8 {
     if i < strip.len() {
         strip[i]

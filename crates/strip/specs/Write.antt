@@ -12,16 +12,16 @@ use Rattle.strip.specs.declared.writer.Written.the-variants.{Bytes, NoRo
 use Rattle.strip.specs.Entry.{encode}
 
 -- there is room for the entry from place i on
-unfoldable pub fits : List ℕ → ℕ → Entry → Bool
-fits s i e = leb (i + length (encode e)) (length s)
+unfoldable pub hasRoom : List ℕ → ℕ → Entry → Bool
+hasRoom s i e = leb (i + length (encode e)) (length s)
 
 -- the whole list afterwards: the entry's bytes stand from place i on; where it does not fit, the list is as it was
-unfoldable pub written : List ℕ → ℕ → Entry → List ℕ
-written s i e = cond (fits s i e) (sets s i (encode e)) s
+unfoldable pub writtenList : List ℕ → ℕ → Entry → List ℕ
+writtenList s i e = cond (hasRoom s i e) (sets s i (encode e)) s
 
 -- and the answer
-unfoldable pub answer : List ℕ → ℕ → Entry → Written
-answer s i e = cond (fits s i e) (Bytes (length (encode e))) NoRoom
+unfoldable pub writtenAnswer : List ℕ → ℕ → Entry → Written
+writtenAnswer s i e = cond (hasRoom s i e) (Bytes (length (encode e))) NoRoom
 
 -- ---- what contracts say
 
@@ -30,5 +30,5 @@ pub record Puts (s : List ℕ) (i : ℕ) (bytes : List ℕ) (s′ : List ℕ) : 
   pub is : s′ ≡ sets s i bytes
 
 pub record Writes (s : List ℕ) (i : ℕ) (e : Entry) (s′ : List ℕ) (r : Written) : Type 0 where
-  pub list : s′ ≡ written s i e
-  pub says : r ≡ answer s i e
+  pub list : s′ ≡ writtenList s i e
+  pub says : r ≡ writtenAnswer s i e

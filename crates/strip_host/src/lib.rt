@@ -2,7 +2,7 @@
 ghost use mathlib.Core.Path.{_≡_};
 ghost use Rattle.strip.specs.Shape.{shapeNumber};
 
-// Whether a run of strips is in order: 0, or 7 where it is not.
+// Whether a run of strips is well-formed: 0, or 7 where it is not.
 #[no_mangle]
 pub extern "C" fn mehkura_shape(run: &[u8]) -> u32
     ensures { λ r. ⌜ r ≡ shapeNumber (now (run .entry)) ⌝ }

@@ -1,4 +1,4 @@
--- Record after record, and block after block: the text of a whole input is that of its blocks, one behind another.
+-- Record after record, and block after block: the text of a whole input is that of its blocks, one after another.
 use Prim.Native.Nat.{ℕ, zero, suc, _+_, _*_, _/_, _-_, _≤_, _<_, min}
 use mathlib.Core.Path.{_≡_, refl, ap, sym, _∙_}
 use mathlib.Core.Bool.{Bool, true, false, _&&_, true≢false}
@@ -10,7 +10,7 @@ use lib.ListN.{length, take, drop, length-append, length-drop}
 use lib.Seq.{take-all, take-append-le, drop-append-le, drop-append-add}
 use Rattle.translation.proofs.Fits.{sets-append}
 use Rattle.strip_printer.specs.declared.line.Printer.{Printer}
-use Rattle.strip_printer.specs.Line.{lineOf, answerTo, behind, added, Printed, withLine, step, upTo, lines, begun, Stands, Block}
+use Rattle.strip_printer.specs.Line.{lineOf, answerTo, printerAfter, added, Printed, withLine, step, upTo, lines, noText, Stands, Block}
 
 -- ---- a record more, in the buffer
 step-going : (l : List ℕ) (d : Printed) → d .going ≡ true → step l d ≡ withLine d (answerTo l (d .marks))
@@ -22,7 +22,7 @@ unfolding step
 step-over l d e = rw e
 
 module _ (l before out : List ℕ) (p : Printer) (d : Printed) (s : Stands before out p d) where
-  pub stands-on : (out′ : List ℕ) (r : Printer) → p .going ≡ true → out′ ≡ added p (answerTo l (p .«cbuf_used»)) out → r ≡ behind p (answerTo l (p .«cbuf_used»)) → Stands before out′ r (step l d)
+  pub stands-on : (out′ : List ℕ) (r : Printer) → p .going ≡ true → out′ ≡ added p (answerTo l (p .«cbuf_used»)) out → r ≡ printerAfter p (answerTo l (p .«cbuf_used»)) → Stands before out′ r (step l d)
   stands-on out′ r g e f =
       let t = lineOf (p .index) (answerTo l (p .«cbuf_used») .outcome) (answerTo l (p .«cbuf_used») .out) in
       rw (step-going l d (sym (s .going) ∙ g), ← s .marks, ← s .index, f) (record {
@@ -37,7 +37,7 @@ module _ (l before out : List ℕ) (p : Printer) (d : Printed) (s : Stands befor
   stands-still g = rw (step-over l d (sym (s .going) ∙ g)) s
 
 -- before the first
-pub stands-begun : (out : List ℕ) (p : Printer) → p .at ≡ 0 → Stands out out p (begun p)
+pub stands-begun : (out : List ℕ) (p : Printer) → p .at ≡ 0 → Stands out out p (noText p)
 stands-begun out p e = record { list = refl; at = e; index = refl; marks = refl; going = refl }
 
 -- the part of the input that a record is
@@ -89,23 +89,23 @@ module _ (a b : List ℕ) (d : Printed) where
       rw (y, z) (beyond n ((length b + 17) / 18) h)
 
 -- what was printed before stays in front
-abbrev pub behindText : List ℕ → Printed → Printed
-behindText t d = record { text = t ++ d .text; index = d .index; marks = d .marks; going = d .going }
+abbrev pub afterText : List ℕ → Printed → Printed
+afterText t d = record { text = t ++ d .text; index = d .index; marks = d .marks; going = d .going }
 
-front-step : (t l : List ℕ) (d : Printed) → step l (behindText t d) ≡ behindText t (step l d)
+front-step : (t l : List ℕ) (d : Printed) → step l (afterText t d) ≡ afterText t (step l d)
 unfolding step
 front-step t l d = by (d .going) refl
   where
-    by : (g : Bool) → d .going ≡ g → step l (behindText t d) ≡ behindText t (step l d)
+    by : (g : Bool) → d .going ≡ g → step l (afterText t d) ≡ afterText t (step l d)
     by true e = rw (e, append-assoc)
     by false e = rw e
 
-front-up : (t l : List ℕ) (d : Printed) (n : ℕ) → upTo n l (behindText t d) ≡ behindText t (upTo n l d)
+front-up : (t l : List ℕ) (d : Printed) (n : ℕ) → upTo n l (afterText t d) ≡ afterText t (upTo n l d)
 unfolding upTo
 front-up t l d zero = refl
 front-up t l d (suc n) = rw (front-up t l d n) (front-step t (take 18 (drop (18 * n) l)) (upTo n l d))
 
-pub front : (t l : List ℕ) (d : Printed) → lines l (behindText t d) ≡ behindText t (lines l d)
+pub front : (t l : List ℕ) (d : Printed) → lines l (afterText t d) ≡ afterText t (lines l d)
 unfolding lines
 front t l d = front-up t l d ((length l + 17) / 18)
 
@@ -114,7 +114,7 @@ pub written-out : (n : ℕ) (a b : List ℕ) (d : Printed) → length a ≡ 18 *
     → lines (a ++ b) d .text ≡ lines a d .text ++ lines b (record { text = []; index = lines a d .index; marks = lines a d .marks; going = lines a d .going }) .text
 written-out n a b d h =
     let c : Printed = record { text = []; index = lines a d .index; marks = lines a d .marks; going = lines a d .going } in
-    let z : behindText (lines a d .text) c ≡ lines a d = ap (λ (t : List ℕ). record { text = t; index = lines a d .index; marks = lines a d .marks; going = lines a d .going }) (append-nil (lines a d .text)) in
+    let z : afterText (lines a d .text) c ≡ lines a d = ap (λ (t : List ℕ). record { text = t; index = lines a d .index; marks = lines a d .marks; going = lines a d .going }) (append-nil (lines a d .text)) in
     ap (λ (x : Printed). x .text) (blocks a b d n h ∙ ap (λ (x : Printed). lines b x) (sym z) ∙ front (lines a d .text) b c)
 
 -- ---- a block that was read, in the buffer
@@ -124,11 +124,11 @@ all-true true true false x y e f g = absurd (true≢false (sym g ∙ f ∙ e))
 all-true true false c x y e f g = absurd (true≢false (sym g ∙ f ∙ e))
 all-true false b c x y e f g = absurd (true≢false (sym g ∙ f))
 
-pub block-is : (input before out : List ℕ) (p q r : Printer) (n : ℕ) (w x : Bool) → n ≤ length input → Stands before out q (lines (take (n - 0) input) (begun p))
+pub block-is : (input before out : List ℕ) (p q r : Printer) (n : ℕ) (w x : Bool) → n ≤ length input → Stands before out q (lines (take (n - 0) input) (noText p))
     → r .index ≡ q .index → r .«cbuf_used» ≡ q .«cbuf_used» → x ≡ (w && eqb n (length input)) → r .going ≡ (q .going && x) → Block input before out p r
 block-is input before out p q r n w x h s i m e f =
     let z : n - 0 ≡ n = omega arith in
-    let t : Stands before out q (lines (take n input) (begun p)) = rw z at s in
+    let t : Stands before out q (lines (take n input) (noText p)) = rw z at s in
     record {
       size = n;
       read = h;

@@ -12,11 +12,11 @@ use lib.ListN.{length, take, getD, set, replicate, length-append, length-drop, l
 use lib.Seq.{sets, take-suc, length-take-le, length-sets}
 use Rattle.io.specs.Counts.{Counts}
 use Rattle.io.specs.Digits.{glyph, digits, Fewest}
-use Rattle.translation.specs.Strip.{Decision, refusalNumber, written, decision}
+use Rattle.translation.specs.Strip.{Decision, refusalNumber, lengthOf, decision}
 use Rattle.translation.specs.declared.answer.Outcome.{Outcome}
 use Rattle.translation.specs.declared.answer.Outcome.the-variants.{Written, Refused}
 use Rattle.translation.specs.declared.answer.Refusal.{Refusal}
-use Rattle.translation.specs.declared.answer.Refusal.the-variants.{BadLength, UnknownKind, UnknownForm, LaneMov, ByteThree, NoRoom}
+use Rattle.translation.specs.declared.answer.Refusal.the-variants.{BadLength, UnknownKind, UnknownForm, SystemValueMov, ByteThree, NoRoom}
 use Rattle.translation.proofs.Fits.{sets-append}
 use Rattle.translation.proofs.Shape.{fits}
 use Rattle.strip_printer.specs.Line.{hexOf, spelled, decimalOf, refusedText, textOf}
@@ -27,7 +27,7 @@ unfolding refusalNumber
 one-digit BadLength = omega arith
 one-digit UnknownKind = omega arith
 one-digit UnknownForm = omega arith
-one-digit LaneMov = omega arith
+one-digit SystemValueMov = omega arith
 one-digit ByteThree = omega arith
 one-digit NoRoom = omega arith
 
@@ -118,11 +118,11 @@ refused-size r = refl
 
 -- ---- the two texts
 module _ (o : Outcome) (room : List ℕ) where
-  pub written-is : (n : ℕ) → o ≡ Written n → written o ≡ n
-  unfolding written
+  pub written-is : (n : ℕ) → o ≡ Written n → lengthOf o ≡ n
+  unfolding lengthOf
   written-is n e = rw e
 
-  pub strip-answer : (base out : List ℕ) (at r n : ℕ) → o ≡ Written n → written o ≤ length room → written o ≤ 256 → out ≡ sets base at (hexOf (take n room)) → r ≡ at + 2 * n
+  pub strip-answer : (base out : List ℕ) (at r n : ℕ) → o ≡ Written n → lengthOf o ≤ length room → lengthOf o ≤ 256 → out ≡ sets base at (hexOf (take n room)) → r ≡ at + 2 * n
       → (out ≡ sets base at (textOf o room)) × ((r ≡ at + length (textOf o room)) × (r ≤ at + 512))
   unfolding textOf
   strip-answer base out at r n e h k x y =
@@ -154,8 +154,8 @@ module _ {a : Decision} (l m : List ℕ) (e : a ≡ decision l m (replicate 256 
   pub fits-length : length (a .out) ≡ 256
   fits-length = rw e (fits l m (replicate 256 0) .same)
 
-  pub fits-most : written (a .outcome) ≤ 256
+  pub fits-most : lengthOf (a .outcome) ≤ 256
   fits-most = rw e (fits l m (replicate 256 0) .within)
 
-  pub fits-room : written (a .outcome) ≤ length (a .out)
+  pub fits-room : lengthOf (a .outcome) ≤ length (a .out)
   fits-room = omega (arith, fits-length, fits-most)

@@ -9,10 +9,10 @@ use lib.Dec.{eqb, ltb}
 use lib.ListN.{length, drop, getD, replicate}
 use lib.Seq.{take-append-seam}
 use Rattle.translation.specs.Insn.{Insn}
-use Rattle.translation.specs.Strip.{Decision, strip, marked, insnOf, known, laneMov, byteThree, refused, fitted, admitted, decision}
+use Rattle.translation.specs.Strip.{Decision, strip, marked, insnOf, known, systemValueMov, byteThree, refused, fitted, admitted, decision}
 use Rattle.translation.specs.declared.answer.Outcome.the-variants.{Written, Refused}
 use Rattle.translation.specs.declared.answer.Refusal.{Refusal}
-use Rattle.translation.specs.declared.answer.Refusal.the-variants.{BadLength, UnknownKind, UnknownForm, LaneMov, ByteThree, NoRoom}
+use Rattle.translation.specs.declared.answer.Refusal.the-variants.{BadLength, UnknownKind, UnknownForm, SystemValueMov, ByteThree, NoRoom}
 use Rattle.translation.proofs.Whole.{whole}
 use Rattle.strip_printer.specs.Line.{hexOf, textOf, answerTo}
 
@@ -47,7 +47,7 @@ module _ (l m : List ℕ) where
       let i = insnOf l in
       let strip-fits : Roomy (fitted (getD l 0 0) i m room) = rw (room-enough (getD l 0 0) i m) (λ e. let z : _≡_ {A = ℕ} 0 1 = cc in omega arith) in
       let three = either (byteThree (getD l 0 0) i) (refused ByteThree m room) _ (other ByteThree m (λ e. let z : _≡_ {A = ℕ} 0 1 = cc in omega arith)) strip-fits in
-      let lane = either (laneMov (getD l 0 0) i) (refused LaneMov m room) _ (other LaneMov m (λ e. let z : _≡_ {A = ℕ} 0 1 = cc in omega arith)) three in
-      let form = either (ltb 2 (i .form)) (refused UnknownForm m room) _ (other UnknownForm m (λ e. let z : _≡_ {A = ℕ} 0 1 = cc in omega arith)) lane in
+      let system = either (systemValueMov (getD l 0 0) i) (refused SystemValueMov m room) _ (other SystemValueMov m (λ e. let z : _≡_ {A = ℕ} 0 1 = cc in omega arith)) three in
+      let form = either (ltb 2 (i .form)) (refused UnknownForm m room) _ (other UnknownForm m (λ e. let z : _≡_ {A = ℕ} 0 1 = cc in omega arith)) system in
       let kind = either (known (getD l 0 0)) _ (refused UnknownKind m room) form (other UnknownKind m (λ e. let z : _≡_ {A = ℕ} 0 1 = cc in omega arith)) in
       either (eqb (length l) 18) _ (refused BadLength m room) kind (other BadLength m (λ e. let z : _≡_ {A = ℕ} 0 1 = cc in omega arith))

@@ -31,7 +31,7 @@ decimalOf n = spelled 20 n
 unfoldable pub refusedText : Refusal → List ℕ
 refusedText r = 114 ∷ 101 ∷ 102 ∷ 117 ∷ 115 ∷ 101 ∷ 100 ∷ 32 ∷ (48 + refusalNumber r) ∷ []
 
--- what stands behind the space: the strip at the front of the room, or the refusal
+-- what stands after the space: the strip at the front of the room, or the refusal
 unfoldable pub textOf : Outcome → List ℕ → List ℕ
 textOf (Written n) out = hexOf (take n out)
 textOf (Refused r) out = refusedText r
@@ -80,9 +80,9 @@ lines l p = upTo ((length l + 17) / 18) l p
 
 -- ---- what contracts say
 
--- behind a record, the text being in a buffer
-abbrev pub behind : Printer → Decision → Printer
-behind p a = record {
+-- after a record, the text being in a buffer
+abbrev pub printerAfter : Printer → Decision → Printer
+printerAfter p a = record {
   at = p .at + length (lineOf (p .index) (a .outcome) (a .out));
   index = p .index + 1;
   «cbuf_used» = a .marks;
@@ -93,8 +93,8 @@ behind p a = record {
 abbrev pub added : Printer → Decision → List ℕ → List ℕ
 added p a out = sets out (p .at) (lineOf (p .index) (a .outcome) (a .out))
 
-abbrev pub begun : Printer → Printed
-begun p = record { text = []; index = p .index; marks = p .«cbuf_used»; going = p .going }
+abbrev pub noText : Printer → Printed
+noText p = record { text = []; index = p .index; marks = p .«cbuf_used»; going = p .going }
 
 -- a buffer that was `before` holds the text at its front, and is otherwise as it was
 pub record Stands (before out : List ℕ) (p : Printer) (d : Printed) : Type 0 where
@@ -104,12 +104,12 @@ pub record Stands (before out : List ℕ) (p : Printer) (d : Printed) : Type 0 w
   pub marks : p .«cbuf_used» ≡ d .marks
   pub going : p .going ≡ d .going
 
--- behind a block: the front of the input was read, its lines are in the buffer, index and marks are carried on. It goes on only where there is
+-- after a block: the front of the input was read, its lines are in the buffer, index and marks are carried on. It goes on only where there is
 -- a next line and the block was full; a full block has whole records (`proofs/Blocks.antt` joins blocks). Whether it does hangs on the writing too.
 pub record Block (input before out : List ℕ) (p r : Printer) : Type 0 where
   pub size : ℕ
   pub read : size ≤ length input
-  pub list : out ≡ sets before 0 (lines (take size input) (begun p) .text)
-  pub index : r .index ≡ lines (take size input) (begun p) .index
-  pub marks : r .«cbuf_used» ≡ lines (take size input) (begun p) .marks
-  pub goes : r .going ≡ true → (lines (take size input) (begun p) .going ≡ true) × (size ≡ length input)
+  pub list : out ≡ sets before 0 (lines (take size input) (noText p) .text)
+  pub index : r .index ≡ lines (take size input) (noText p) .index
+  pub marks : r .«cbuf_used» ≡ lines (take size input) (noText p) .marks
+  pub goes : r .going ≡ true → (lines (take size input) (noText p) .going ≡ true) × (size ≡ length input)

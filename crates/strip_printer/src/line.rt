@@ -6,9 +6,9 @@ ghost use mathlib.Core.List.{List};
 ghost use lib.ListN.{length, take};
 ghost use lib.Seq.{sets};
 ghost use Rattle.io.specs.Digits.{glyph as Digits·glyph};
-ghost use Rattle.translation.specs.Strip.{refusalNumber, written};
+ghost use Rattle.translation.specs.Strip.{refusalNumber, lengthOf};
 ghost use Rattle.strip_printer.specs.Line.{hexOf, decimalOf, refusedText, textOf, lineOf, goesOn};
-ghost use Rattle.strip_printer.specs.Line.{answerTo, behind, added, Printed, Stands, begun, step, lines};
+ghost use Rattle.strip_printer.specs.Line.{answerTo, printerAfter, added, Printed, Stands, noText, step, lines};
 use translation::Outcome;
 use translation::Refusal;
 
@@ -55,7 +55,7 @@ fn copy(from: &[u8], out: &mut [u8], at: usize)
     }
 }
 
-// A number in decimal from a place on, and the place behind it.
+// A number in decimal from a place on, and the place after it.
 fn decimal(n: u64, out: &mut [u8], at: usize) -> usize
     requires { ⌜ at + 20 ≤ length (now out) ⌝ }
     ensures { λ r. ⌜ now (out .exit) ≡ sets (now (out .entry)) at (decimalOf n) ⌝ }
@@ -74,7 +74,7 @@ fn digit(r: Refusal) -> u8
     b'0' + translation::refusal_number(r) as u8
 }
 
-// `refused N` from a place on, and the place behind it.
+// `refused N` from a place on, and the place after it.
 fn refusal(r: Refusal, out: &mut [u8], at: usize) -> usize
     requires { ⌜ at + 9 ≤ length (now out) ⌝ }
     ensures { λ n. ⌜ now (out .exit) ≡ sets (now (out .entry)) at (refusedText r) ⌝ }
@@ -85,7 +85,7 @@ fn refusal(r: Refusal, out: &mut [u8], at: usize) -> usize
     at + 9
 }
 
-// The first n bytes of the room in hex from a place on, and the place behind it.
+// The first n bytes of the room in hex from a place on, and the place after it.
 fn strip(room: &[u8], n: usize, out: &mut [u8], at: usize) -> usize
     requires { ⌜ (n ≤ length (now room)) × (at + 2 * n ≤ length (now out)) ⌝ }
     ensures { λ r. ⌜ now (out .exit) ≡ sets (now (out .entry)) at (hexOf (take n (now (room .entry)))) ⌝ }
@@ -95,9 +95,9 @@ fn strip(room: &[u8], n: usize, out: &mut [u8], at: usize) -> usize
     at + 2 * n
 }
 
-// The strip or `refused N` from a place on, and the place behind it.
-fn answer(o: Outcome, room: &[u8], out: &mut [u8], at: usize) -> usize
-    requires { ⌜ (written o ≤ length (now room)) × (written o ≤ 256) × (at + 512 ≤ length (now out)) ⌝ }
+// The strip or `refused N` from a place on, and the place after it.
+fn outcome_text(o: Outcome, room: &[u8], out: &mut [u8], at: usize) -> usize
+    requires { ⌜ (lengthOf o ≤ length (now room)) × (lengthOf o ≤ 256) × (at + 512 ≤ length (now out)) ⌝ }
     ensures { λ r. ⌜ now (out .exit) ≡ sets (now (out .entry)) at (textOf o (now (room .entry))) ⌝ }
     ensures { λ r. ⌜ (r ≡ at + length (textOf o (now (room .entry)))) × (r ≤ at + 512) ⌝ }
 {
@@ -117,15 +117,15 @@ fn goes_on(o: Outcome) -> bool
     }
 }
 
-// A line from a place on, and the place behind it.
+// A line from a place on, and the place after it.
 fn text(index: u64, o: Outcome, room: &[u8], out: &mut [u8], at: usize) -> usize
-    requires { ⌜ (written o ≤ length (now room)) × (written o ≤ 256) × (at + 534 ≤ length (now out)) ⌝ }
+    requires { ⌜ (lengthOf o ≤ length (now room)) × (lengthOf o ≤ 256) × (at + 534 ≤ length (now out)) ⌝ }
     ensures { λ r. ⌜ now (out .exit) ≡ sets (now (out .entry)) at (lineOf index o (now (room .entry))) ⌝ }
     ensures { λ r. ⌜ (r ≡ at + length (lineOf index o (now (room .entry)))) × (r ≤ at + 534) ⌝ }
 {
     let space = decimal(index, out, at);
     out[space] = b' ';
-    let end = answer(o, room, out, space + 1);
+    let end = outcome_text(o, room, out, space + 1);
     out[end] = b'\n';
     end + 1
 }
@@ -134,7 +134,7 @@ fn text(index: u64, o: Outcome, room: &[u8], out: &mut [u8], at: usize) -> usize
 fn line(bytes: &[u8], p: Printer, out: &mut [u8]) -> Printer
     requires { ⌜ (p .at + 534 ≤ length (now out)) × (p .index + 1 < 2 ^ 64) ⌝ }
     ensures { λ r. ⌜ now (out .exit) ≡ added p (answerTo (now (bytes .entry)) (p .«cbuf_used»)) (now (out .entry)) ⌝ }
-    ensures { λ r. ⌜ (r ≡ behind p (answerTo (now (bytes .entry)) (p .«cbuf_used»))) × (r .at ≤ p .at + 534) ⌝ }
+    ensures { λ r. ⌜ (r ≡ printerAfter p (answerTo (now (bytes .entry)) (p .«cbuf_used»))) × (r .at ≤ p .at + 534) ⌝ }
 {
     let mut room = [0u8; 256];
     let used = p.cbuf_used;
@@ -150,7 +150,7 @@ fn line(bytes: &[u8], p: Printer, out: &mut [u8]) -> Printer
     }
 }
 
-// Behind the last line there is none.
+// After the last line there is none.
 fn step(bytes: &[u8], p: Printer, out: &mut [u8]) -> Printer
     requires { ⌜ (p .at + 534 ≤ length (now out)) × (p .index + 1 < 2 ^ 64) ⌝ }
     ensures { λ r. ⌜ ((base : List ℕ) (d : Printed) → Stands base (now (out .entry)) p d → Stands base (now (out .exit)) r (step (now (bytes .entry)) d)) ⌝ }
@@ -169,7 +169,7 @@ fn least(a: usize, b: usize) -> usize
 pub fn lines(input: &[u8], start: Printer, out: &mut [u8]) -> Printer
     requires { ⌜ (length (now input) ≤ 8190) × (length (now out) ≡ 242970) ⌝ }
     requires { ⌜ (start .at ≡ 0) × (start .index + 455 < 2 ^ 64) ⌝ }
-    ensures { λ r. ⌜ Stands (now (out .entry)) (now (out .exit)) r (lines (now (input .entry)) (begun start)) ⌝ }
+    ensures { λ r. ⌜ Stands (now (out .entry)) (now (out .exit)) r (lines (now (input .entry)) (noText start)) ⌝ }
     ensures { λ r. ⌜ (r .at ≤ 242970) × (r .index ≤ start .index + 455) ⌝ }
 {
     let count = (input.len() + 17) / 18;

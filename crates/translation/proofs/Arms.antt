@@ -12,7 +12,7 @@ use Rattle.strip.proofs.Table.{bodyNumber}
 use Rattle.translation.specs.Insn.{Insn, bits, bit, simm20}
 use Rattle.translation.specs.Code.{Code}
 use Rattle.translation.specs.Helpers.{r, set, logicalNotIf, predicate, p, setp, b2u, cbufAt, cbufImm, srcB, srcBc, inot, ineg, carryFlag, signedOverflow, setCc, setCcIf, setSumCc, addWithFlags, carryFlagSum, carryOneSum, carrySum, saturateAdd, boolOp, lessThan, lessThanEqual, greaterThan, greaterThanEqual, intCmp, ccFlags, ccCase, ccTest, shifted, shiftFill, shiftEnd, shift, lop3Row, lop3Rows, lop3, extract, field, half16, halfSelect, videoOperand, intSource, clampHigh, saturateBy, saturateInt}
-use Rattle.translation.specs.Arms.{mov, mov32i, sel, setpBoth, setTruth, csetp, setWord, setEither, icompare, pcombine, prepared, iaddOf, iadd, iadd32i, iadd3Shift, iadd3Of, iadd3Fetch, iadd3, iscadd, xmadShift, xmadAlter, xmadMerge, xmadProduct, xmadOf, xmadBc, xmadFetch, xmad, minOf, maxOf, imnmx, icmpOf, icmpBc, icmp, lopWord, lopTest, lopPredicate, lop, lop32i, lop3Arm, shl, reverseIf, shr, insertField, extractField, useField, fieldOf, bfe, bfiOf, bfiBc, bfi, vmnmxB, vmnmxMixed, vmnmxFirst, minOrMax, vmnmxWord, vmnmxSaturate, vmnmxInsert, vmnmxMerge, vmnmxOf, vmnmx, absolute, saturateIf, i2i, findMsb, floShift, flo, popc, noteUnless, storeCell, r2pTurn, r2pTurns, r2p, loadCell, p2rTurn, p2rTurns, p2r, shfAmount, shfSelect, shfWord, shfOf, shf, leaB, leaJoin, leaWord, lea, wordArm, bitArm, sumArm, armOf, truthWord, xmadHigh, xmadSigned, vmnmxImm, p2rKeep, leaShift}
+use Rattle.translation.specs.Arms.{mov, mov32i, sel, setpBoth, setTruth, csetp, setWord, setEither, icompare, pcombine, prepared, iaddWords, iadd, iadd32i, iadd3Shift, iadd3Words, iadd3Fetch, iadd3, iscadd, xmadShift, xmadAlter, xmadMerge, xmadProduct, xmadWords, xmadBc, xmadFetch, xmad, minimum, maximum, imnmx, icmpWords, icmpBc, icmp, lopWord, lopTest, lopPredicate, lop, lop32i, lop3Arm, shl, reverseIf, shr, useField, fieldAtB, bfe, bfiWords, bfiBc, bfi, vmnmxB, vmnmxMixed, vmnmxFirst, minOrMax, vmnmxWord, vmnmxSaturate, vmnmxInsert, vmnmxMerge, vmnmxWords, vmnmx, absolute, saturateIf, i2i, findMsb, floShift, flo, popc, noteUnless, storeCell, r2pTurn, r2pTurns, r2p, loadCell, p2rTurn, p2rTurns, p2r, shfAmount, shfSelect, shfWord, shfWords, shf, leaB, leaJoin, leaWord, lea, armOf, truthWord, xmadHigh, xmadSigned, vmnmxImm, p2rKeep, leaShift}
 use Rattle.translation.proofs.Fits.{bound, room, marks}
 use Rattle.translation.proofs.Typed.{kind, typed, closed}
 use Rattle.translation.proofs.InRange.{either, inRange, bits-lt, simm20-lt, truth-word-lt, vmnmx-imm-lt, p2r-keep-lt, lea-shift-lt, r-range, set-range, predicate-range, setp-range, cbuf-range, half-range, video-range, source-range, saturate-range, r2p-range, p2r-range}
@@ -26,11 +26,11 @@ pub record Sized (c : Code) (bytes entries uses : ℕ) : Type 0 where
   pub closed : closed 0 c ≡ true
 
 pub arm-sized : (k : ℕ) (i : Insn) → Sized (armOf k i) 245 59 1
-unfolding mov mov32i sel setpBoth setTruth csetp setWord setEither icompare pcombine prepared iaddOf iadd iadd32i iadd3Shift iadd3Of iadd3Fetch iadd3 iscadd xmadShift xmadAlter xmadMerge xmadProduct xmadOf xmadBc xmadFetch xmad minOf maxOf imnmx icmpOf icmpBc icmp lopWord lopTest lopPredicate lop lop32i lop3Arm shl reverseIf shr insertField extractField useField fieldOf bfe bfiOf bfiBc bfi vmnmxB vmnmxMixed vmnmxFirst minOrMax vmnmxWord vmnmxSaturate vmnmxInsert vmnmxMerge vmnmxOf vmnmx absolute saturateIf i2i findMsb floShift flo popc noteUnless storeCell r2pTurn r2pTurns r2p loadCell p2rTurn p2rTurns p2r shfAmount shfSelect shfWord shfOf shf leaB leaJoin leaWord lea wordArm bitArm sumArm armOf r set logicalNotIf predicate p setp b2u cbufAt cbufImm srcB srcBc inot ineg carryFlag signedOverflow setCc setCcIf setSumCc addWithFlags carryFlagSum carryOneSum carrySum saturateAdd boolOp lessThan lessThanEqual greaterThan greaterThanEqual intCmp ccFlags ccCase ccTest shifted shiftFill shiftEnd shift lop3Row lop3Rows lop3 extract field half16 halfSelect videoOperand intSource clampHigh saturateBy saturateInt kind typed closed formatOf kindOf refsOf bodyOf names refsPass bodyNumber
+unfolding mov mov32i sel setpBoth setTruth csetp setWord setEither icompare pcombine prepared iaddWords iadd iadd32i iadd3Shift iadd3Words iadd3Fetch iadd3 iscadd xmadShift xmadAlter xmadMerge xmadProduct xmadWords xmadBc xmadFetch xmad minimum maximum imnmx icmpWords icmpBc icmp lopWord lopTest lopPredicate lop lop32i lop3Arm shl reverseIf shr useField fieldAtB bfe bfiWords bfiBc bfi vmnmxB vmnmxMixed vmnmxFirst minOrMax vmnmxWord vmnmxSaturate vmnmxInsert vmnmxMerge vmnmxWords vmnmx absolute saturateIf i2i findMsb floShift flo popc noteUnless storeCell r2pTurn r2pTurns r2p loadCell p2rTurn p2rTurns p2r shfAmount shfSelect shfWord shfWords shf leaB leaJoin leaWord lea armOf r set logicalNotIf predicate p setp b2u cbufAt cbufImm srcB srcBc inot ineg carryFlag signedOverflow setCc setCcIf setSumCc addWithFlags carryFlagSum carryOneSum carrySum saturateAdd boolOp lessThan lessThanEqual greaterThan greaterThanEqual intCmp ccFlags ccCase ccTest shifted shiftFill shiftEnd shift lop3Row lop3Rows lop3 extract field half16 halfSelect videoOperand intSource clampHigh saturateBy saturateInt kind typed closed formatOf kindOf refsOf bodyOf names refsPass bodyNumber
 arm-sized k i = record { room = omega arith; bound = omega arith; marks = omega arith; typed = refl; closed = refl }
 
 pub arm-range : (k : ℕ) (i : Insn) → inRange (armOf k i) ≡ true
-unfolding mov mov32i sel setpBoth setTruth csetp setWord setEither icompare pcombine prepared iaddOf iadd iadd32i iadd3Shift iadd3Of iadd3Fetch iadd3 iscadd xmadShift xmadAlter xmadMerge xmadProduct xmadOf xmadBc xmadFetch xmad minOf maxOf imnmx icmpOf icmpBc icmp lopWord lopTest lopPredicate lop lop32i lop3Arm shl reverseIf shr insertField extractField useField fieldOf bfe bfiOf bfiBc bfi vmnmxB vmnmxMixed vmnmxFirst minOrMax vmnmxWord vmnmxSaturate vmnmxInsert vmnmxMerge vmnmxOf vmnmx absolute saturateIf i2i findMsb floShift flo popc noteUnless r2pTurns r2p p2rTurns p2r shfAmount shfSelect shfWord shfOf shf leaB leaJoin leaWord lea wordArm bitArm sumArm armOf logicalNotIf p b2u srcB srcBc inot ineg carryFlag signedOverflow setCc setCcIf setSumCc addWithFlags carryFlagSum carryOneSum carrySum saturateAdd boolOp lessThan lessThanEqual greaterThan greaterThanEqual intCmp ccFlags ccCase ccTest shifted shiftFill shiftEnd shift lop3Row lop3Rows lop3 extract halfSelect inRange either formatOf kindOf cellOk cellsOf
+unfolding mov mov32i sel setpBoth setTruth csetp setWord setEither icompare pcombine prepared iaddWords iadd iadd32i iadd3Shift iadd3Words iadd3Fetch iadd3 iscadd xmadShift xmadAlter xmadMerge xmadProduct xmadWords xmadBc xmadFetch xmad minimum maximum imnmx icmpWords icmpBc icmp lopWord lopTest lopPredicate lop lop32i lop3Arm shl reverseIf shr useField fieldAtB bfe bfiWords bfiBc bfi vmnmxB vmnmxMixed vmnmxFirst minOrMax vmnmxWord vmnmxSaturate vmnmxInsert vmnmxMerge vmnmxWords vmnmx absolute saturateIf i2i findMsb floShift flo popc noteUnless r2pTurns r2p p2rTurns p2r shfAmount shfSelect shfWord shfWords shf leaB leaJoin leaWord lea armOf logicalNotIf p b2u srcB srcBc inot ineg carryFlag signedOverflow setCc setCcIf setSumCc addWithFlags carryFlagSum carryOneSum carrySum saturateAdd boolOp lessThan lessThanEqual greaterThan greaterThanEqual intCmp ccFlags ccCase ccTest shifted shiftFill shiftEnd shift lop3Row lop3Rows lop3 extract halfSelect inRange either formatOf kindOf cellOk cellsOf
 arm-range k i =
     rw (
       r-range (bits i 8 8) (bits-lt i 8 8),

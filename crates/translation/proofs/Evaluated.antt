@@ -8,7 +8,7 @@ use lib.Dec.{eqb}
 use lib.ListN.{length, getD}
 use borrow.Author.Tests.{lt-ltb, eqb-false}
 use Rattle.strip.specs.declared.reader.Entry.{Entry}
-use Rattle.strip.specs.declared.reader.Entry.the-variants as Of
+use Rattle.strip.specs.declared.reader.Entry.the-variants as Entry
 use Rattle.strip.specs.Entry.{refsOf}
 use Rattle.strip.proofs.Tests.{and-left, and-right}
 use Rattle.evaluation.specs.declared.value.Value.{Value}
@@ -18,7 +18,7 @@ use Rattle.evaluation.specs.declared.machine.Outcome.the-variants.{Done, Refuse
 use Rattle.evaluation.specs.declared.machine.Evaluated.{Evaluated}
 use Rattle.evaluation.specs.Value.{withTruth, negated}
 use Rattle.evaluation.specs.State.{loaded}
-use Rattle.evaluation.specs.Machine.{Effect, Push, SetReg, SetPred, SetFlag, Enter, Pass, Finish, Refuse, Midway, begun, entering, bareEffect, cellEffect, oneEffect, valueAt, effectOf, muted, stepOf, outcomeOf, applied, ends, onward, entriesFrom, stripsFrom, settled, evaluated}
+use Rattle.evaluation.specs.Machine.{Effect, Push, SetReg, SetPred, SetFlag, Enter, Pass, Finish, Refuse, Midway, begun, entering, bareEffect, cellEffect, oneEffect, valueAt, effectOf, muted, takenEffect, outcomeOf, applied, ends, onward, entriesFrom, stripsFrom, restored, evaluated}
 use Rattle.evaluation.proofs.Flat.{evaluated-strips}
 use Rattle.translation.specs.Insn.{Insn}
 use Rattle.translation.specs.Code.{Code, ret, op, act, call, mark, ite, renamed, at, ats, Built, build}
@@ -60,18 +60,18 @@ mutes-act Finish p = absurd p
 mutes-act (Refuse r) p = refl
 
 gives-renamed : (f : ℕ → ℕ) (e : Entry) → (givesValue (renamed f e) ≡ givesValue e) × (givesNone (renamed f e) ≡ givesNone e)
-gives-renamed f (Of.Bare k) = (refl, refl)
-gives-renamed f (Of.Word w) = (refl, refl)
-gives-renamed f (Of.Cell k n) = (refl, refl)
-gives-renamed f (Of.Store k n r) = (refl, refl)
-gives-renamed f (Of.One k a) = (refl, refl)
-gives-renamed f (Of.Two k a b) = (refl, refl)
-gives-renamed f (Of.Three k a b c) = (refl, refl)
-gives-renamed f (Of.Four k a b c d) = (refl, refl)
+gives-renamed f (Entry.Bare k) = (refl, refl)
+gives-renamed f (Entry.Word w) = (refl, refl)
+gives-renamed f (Entry.Cell k n) = (refl, refl)
+gives-renamed f (Entry.Store k n r) = (refl, refl)
+gives-renamed f (Entry.One k a) = (refl, refl)
+gives-renamed f (Entry.Two k a b) = (refl, refl)
+gives-renamed f (Entry.Three k a b c) = (refl, refl)
+gives-renamed f (Entry.Four k a b c d) = (refl, refl)
 
 module _ (cs : List ℕ) (s : State) (vs : List Value) where
   step-skip : (e : Entry) (rest : List Entry) → muted (effectOf (skipped s vs) e cs) ≡ Pass → entriesFrom cs (skipped s vs) (e ∷ rest) ≡ entriesFrom cs (skipped s vs) rest
-  unfolding entriesFrom stepOf outcomeOf applied
+  unfolding entriesFrom takenEffect outcomeOf applied
   step-skip e rest q = rw q refl
 
   skips : (c : Code) (m : ℕ) → closed m c ≡ true → (rs : List ℕ) (n : ℕ) (rest : List Entry) → entriesFrom cs (skipped s vs) (build c rs n .entries ++ rest) ≡ entriesFrom cs (skipped s vs) rest
@@ -98,46 +98,46 @@ module _ (cs : List ℕ) (s : State) (vs : List Value) where
 -- ---- the ends of a strip
 
 module _ (cs : List ℕ) (s : State) (vs : List Value) where
-  at-end : entriesFrom cs (mid s vs) (Of.Bare 255 ∷ []) ≡ ends Done s
-  unfolding entriesFrom stepOf outcomeOf applied effectOf bareEffect begun
+  at-end : entriesFrom cs (mid s vs) (Entry.Bare 255 ∷ []) ≡ ends Done s
+  unfolding entriesFrom takenEffect outcomeOf applied effectOf bareEffect begun
   at-end = refl
 
-  at-close : entriesFrom cs (mid s vs) (Of.Bare 101 ∷ Of.Bare 255 ∷ []) ≡ ends Done s
-  unfolding entriesFrom stepOf outcomeOf applied effectOf bareEffect begun
+  at-close : entriesFrom cs (mid s vs) (Entry.Bare 101 ∷ Entry.Bare 255 ∷ []) ≡ ends Done s
+  unfolding entriesFrom takenEffect outcomeOf applied effectOf bareEffect begun
   at-close = refl
 
-  past-close : entriesFrom cs (skipped s vs) (Of.Bare 101 ∷ Of.Bare 255 ∷ []) ≡ ends Done s
-  unfolding entriesFrom stepOf outcomeOf applied effectOf bareEffect begun muted
+  past-close : entriesFrom cs (skipped s vs) (Entry.Bare 101 ∷ Entry.Bare 255 ∷ []) ≡ ends Done s
+  unfolding entriesFrom takenEffect outcomeOf applied effectOf bareEffect begun muted
   past-close = refl
 
-  at-open : (g : ℕ) (t : Bool) (rest : List Entry) → valueAt vs g ≡ Truth t → entriesFrom cs (mid s vs) (Of.One 100 g ∷ rest) ≡ entriesFrom cs (record { state = s; values = vs; skip = not t }) rest
-  unfolding entriesFrom stepOf outcomeOf applied effectOf oneEffect entering withTruth
+  at-open : (g : ℕ) (t : Bool) (rest : List Entry) → valueAt vs g ≡ Truth t → entriesFrom cs (mid s vs) (Entry.One 100 g ∷ rest) ≡ entriesFrom cs (record { state = s; values = vs; skip = not t }) rest
+  unfolding entriesFrom takenEffect outcomeOf applied effectOf oneEffect entering withTruth
   at-open g t rest q = rw q refl
 
 -- what a strip does where its arm does r, from the state s
-abbrev pub answerOf : State → Ran → Evaluated
-answerOf s (ran t v) = ends Done t
-answerOf s (halted r t) = ends (Refused r) s
+abbrev pub stripAnswer : State → Ran → Evaluated
+stripAnswer s (ran t v) = ends Done t
+stripAnswer s (halted r t) = ends (Refused r) s
 
--- entries behind which the strip ends
+-- entries after which the strip ends
 module _ (cs : List ℕ) (s : State) where
   ended : (all : List Value) (b : Built) (rest : List Entry) → ((t : State) (vs : List Value) → entriesFrom cs (mid t vs) rest ≡ ends Done t) → (r : Ran) → Follows cs s all b r
-      → settled s (onward (entriesFrom cs (mid s all) (b .entries ++ rest)) (λ t. ends Done t)) ≡ answerOf s r
+      → restored s (onward (entriesFrom cs (mid s all) (b .entries ++ rest)) (λ t. ends Done t)) ≡ stripAnswer s r
   ended all b rest last (ran t v) f = rw (f .goes rest, last t (f .values)) refl
   ended all b rest last (halted r t) f = rw (f rest) refl
 
 -- ---- the guard
 
 -- predicate 7 is true
-unfoldable pub predicateOf : State → ℕ → Bool
-predicateOf s k = cond (eqb k 7) true (getD (s .preds) k false)
+unfoldable pub predicateAt : State → ℕ → Bool
+predicateAt s k = cond (eqb k 7) true (getD (s .preds) k false)
 
 -- the record runs: its guard, a predicate, negated or not
 abbrev pub guardHolds : Insn → State → Bool
-guardHolds i s = xor (predicateOf s (guard i)) (guardNot i)
+guardHolds i s = xor (predicateAt s (guard i)) (guardNot i)
 
-always : (s : State) (k : ℕ) → eqb k 7 ≡ true → predicateOf s k ≡ true
-unfolding predicateOf
+always : (s : State) (k : ℕ) → eqb k 7 ≡ true → predicateAt s k ≡ true
+unfolding predicateAt
 always s k e = rw e refl
 
 module _ (cs : List ℕ) (s : State) where
@@ -148,18 +148,18 @@ module _ (cs : List ℕ) (s : State) where
   not-sem false true = refl
   not-sem false false = refl
 
-  pub predicate-sem : (k : ℕ) → k < 8 → sem cs (predicate k) [] s ≡ ran s (Truth (predicateOf s k))
-  unfolding predicate effectOf bareEffect cellEffect loaded valueAt predicateOf
+  pub predicate-sem : (k : ℕ) → k < 8 → sem cs (predicate k) [] s ≡ ran s (Truth (predicateAt s k))
+  unfolding predicate effectOf bareEffect cellEffect loaded valueAt predicateAt
   predicate-sem k h = go (eqb k 7) refl
     where
       go : (b : Bool) → eqb k 7 ≡ b
-          → sem cs (ite b (op (Of.Bare 2) (ret 0)) (op (Of.Cell 5 k) (ret 0))) [] s ≡ ran s (Truth (cond b true (getD (s .preds) k false)))
+          → sem cs (ite b (op (Entry.Bare 2) (ret 0)) (op (Entry.Cell 5 k) (ret 0))) [] s ≡ ran s (Truth (cond b true (getD (s .preds) k false)))
       go true e = refl
       go false e = let d = eqb-false k 7 e in rw (lt-ltb k 7 (omega arith)) refl
 
-  pub p-sem : (k : ℕ) (n : Bool) → k < 8 → sem cs (p k n) [] s ≡ ran s (Truth (xor (predicateOf s k) n))
+  pub p-sem : (k : ℕ) (n : Bool) → k < 8 → sem cs (p k n) [] s ≡ ran s (Truth (xor (predicateAt s k) n))
   unfolding p valueAt
-  p-sem k n h = rw (predicate-sem k h, not-sem n (predicateOf s k)) refl
+  p-sem k n h = rw (predicate-sem k h, not-sem n (predicateAt s k)) refl
 
 -- ---- the strip
 
@@ -167,35 +167,35 @@ module _ (cs : List ℕ) (k : ℕ) (i : Insn) (s : State) where
   arm-follows : (all : List Value) → length all ≤ 5 → Follows cs s all (build (armOf k i) [] (length all)) (sem cs (armOf k i) [] s)
   arm-follows all h = follows cs (armOf k i) [] [] all s (arm-sized k i .closed) tt (omega (arith, arm-sized k i .bound))
 
-  -- behind a guard that holds the arm runs, behind one that fails nothing does
-  behind-open : (g : Built) (vs : List Value) (t : Bool) → g .next ≡ length vs → length vs ≤ 5
-      → settled s (onward (entriesFrom cs (record { state = s; values = vs; skip = not t }) (build (armOf k i) [] (g .next) .entries ++ (Of.Bare 101 ∷ Of.Bare 255 ∷ []))) (λ u. ends Done u))
-      ≡ cond t (answerOf s (sem cs (armOf k i) [] s)) (ends Done s)
-  behind-open g vs true q h = rw q (ended cs s vs (build (armOf k i) [] (length vs)) (Of.Bare 101 ∷ Of.Bare 255 ∷ []) (λ u ws. at-close cs u ws) (sem cs (armOf k i) [] s) (arm-follows vs h))
-  behind-open g vs false q h = rw (skips cs s vs (armOf k i) 0 (arm-sized k i .closed) [] (g .next) (Of.Bare 101 ∷ Of.Bare 255 ∷ []), past-close cs s vs) refl
+  -- after a guard that holds the arm runs, after one that fails nothing does
+  after-open : (g : Built) (vs : List Value) (t : Bool) → g .next ≡ length vs → length vs ≤ 5
+      → restored s (onward (entriesFrom cs (record { state = s; values = vs; skip = not t }) (build (armOf k i) [] (g .next) .entries ++ (Entry.Bare 101 ∷ Entry.Bare 255 ∷ []))) (λ u. ends Done u))
+      ≡ cond t (stripAnswer s (sem cs (armOf k i) [] s)) (ends Done s)
+  after-open g vs true q h = rw q (ended cs s vs (build (armOf k i) [] (length vs)) (Entry.Bare 101 ∷ Entry.Bare 255 ∷ []) (λ u ws. at-close cs u ws) (sem cs (armOf k i) [] s) (arm-follows vs h))
+  after-open g vs false q h = rw (skips cs s vs (armOf k i) 0 (arm-sized k i .closed) [] (g .next) (Entry.Bare 101 ∷ Entry.Bare 255 ∷ []), past-close cs s vs) refl
 
   guard-follows : Gone cs s [] (build (p (guard i) (guardNot i)) [] 0) s (Truth (guardHolds i s))
-      → settled s (onward (entriesFrom cs (mid s []) (block (build (p (guard i) (guardNot i)) [] 0) (armOf k i) ++ (Of.Bare 255 ∷ []))) (λ u. ends Done u))
-      ≡ cond (guardHolds i s) (answerOf s (sem cs (armOf k i) [] s)) (ends Done s)
+      → restored s (onward (entriesFrom cs (mid s []) (block (build (p (guard i) (guardNot i)) [] 0) (armOf k i) ++ (Entry.Bare 255 ∷ []))) (λ u. ends Done u))
+      ≡ cond (guardHolds i s) (stripAnswer s (sem cs (armOf k i) [] s)) (ends Done s)
   guard-follows w =
       let g = build (p (guard i) (guardNot i)) [] 0 in
       let arm = build (armOf k i) [] (g .next) .entries in
-      let rest = Of.One 100 (g .result) ∷ (arm ++ (Of.Bare 101 ∷ Of.Bare 255 ∷ [])) in
-      let shape : block g (armOf k i) ++ (Of.Bare 255 ∷ []) ≡ g .entries ++ rest =
-      append-assoc (g .entries) (Of.One 100 (g .result) ∷ (arm ++ (Of.Bare 101 ∷ []))) (Of.Bare 255 ∷ [])
-      ∙ ap (λ (x : List Entry). g .entries ++ (Of.One 100 (g .result) ∷ x)) (append-assoc arm (Of.Bare 101 ∷ []) (Of.Bare 255 ∷ [])) in
-      rw (shape, w .goes rest, at-open cs s (w .values) (g .result) (guardHolds i s) (arm ++ (Of.Bare 101 ∷ Of.Bare 255 ∷ [])) (w .result))
-      (behind-open g (w .values) (guardHolds i s) (w .next) (omega (arith, w .next, next-bound (p (guard i) (guardNot i)) [] 0, guard-sized (guard i) (guardNot i) .bound)))
+      let rest = Entry.One 100 (g .result) ∷ (arm ++ (Entry.Bare 101 ∷ Entry.Bare 255 ∷ [])) in
+      let shape : block g (armOf k i) ++ (Entry.Bare 255 ∷ []) ≡ g .entries ++ rest =
+      append-assoc (g .entries) (Entry.One 100 (g .result) ∷ (arm ++ (Entry.Bare 101 ∷ []))) (Entry.Bare 255 ∷ [])
+      ∙ ap (λ (x : List Entry). g .entries ++ (Entry.One 100 (g .result) ∷ x)) (append-assoc arm (Entry.Bare 101 ∷ []) (Entry.Bare 255 ∷ [])) in
+      rw (shape, w .goes rest, at-open cs s (w .values) (g .result) (guardHolds i s) (arm ++ (Entry.Bare 101 ∷ Entry.Bare 255 ∷ [])) (w .result))
+      (after-open g (w .values) (guardHolds i s) (w .next) (omega (arith, w .next, next-bound (p (guard i) (guardNot i)) [] 0, guard-sized (guard i) (guardNot i) .bound)))
 
-  pub strip-evaluated : evaluated (strip k i) s cs ≡ cond (guardHolds i s) (answerOf s (sem cs (armOf k i) [] s)) (ends Done s)
+  pub strip-evaluated : evaluated (strip k i) s cs ≡ cond (guardHolds i s) (stripAnswer s (sem cs (armOf k i) [] s)) (ends Done s)
   unfolding stripsFrom entriesOf guarded begun xor
   strip-evaluated = evaluated-strips s cs (strip k i) (entriesOf k i ∷ []) (strip-decodes k i) (strip-shape k i) ∙ go (eqb (guard i) 7) (guardNot i) refl refl
     where
       go : (always off : Bool) → eqb (guard i) 7 ≡ always → guardNot i ≡ off
-          → settled s (onward (entriesFrom cs (mid s []) (cond always (cond off [] (build (armOf k i) [] 0 .entries)) (block (build (p (guard i) (guardNot i)) [] 0) (armOf k i)) ++ (Of.Bare 255 ∷ []))) (λ u. ends Done u))
-          ≡ cond (guardHolds i s) (answerOf s (sem cs (armOf k i) [] s)) (ends Done s)
+          → restored s (onward (entriesFrom cs (mid s []) (cond always (cond off [] (build (armOf k i) [] 0 .entries)) (block (build (p (guard i) (guardNot i)) [] 0) (armOf k i)) ++ (Entry.Bare 255 ∷ []))) (λ u. ends Done u))
+          ≡ cond (guardHolds i s) (stripAnswer s (sem cs (armOf k i) [] s)) (ends Done s)
       go true true a n = rw (n, always s (guard i) a, at-end cs s []) refl
-      go true false a n = rw (n, always s (guard i) a) (ended cs s [] (build (armOf k i) [] 0) (Of.Bare 255 ∷ []) (λ u ws. at-end cs u ws) (sem cs (armOf k i) [] s) (arm-follows [] (omega arith)))
+      go true false a n = rw (n, always s (guard i) a) (ended cs s [] (build (armOf k i) [] 0) (Entry.Bare 255 ∷ []) (λ u ws. at-end cs u ws) (sem cs (armOf k i) [] s) (arm-follows [] (omega arith)))
       go false off a n =
           let c = p (guard i) (guardNot i) in
           let f = follows cs c [] [] [] s (guard-sized (guard i) (guardNot i) .closed) tt (omega (arith, guard-sized (guard i) (guardNot i) .bound)) in

@@ -1,4 +1,4 @@
--- As long as it is short, what code emits is what it builds: the bytes of its entries, one behind another, and the numbers.
+-- As long as it is short, what code emits is what it builds: the bytes of its entries, one after another, and the numbers.
 use mathlib.Core.Path.{_≡_, refl, sym, ap, _∙_}
 use mathlib.Core.Bool.{Bool, true, false}
 use mathlib.Core.List.{List, [], _∷_, _++_, append-assoc}
@@ -7,7 +7,7 @@ use native.Mathlib.Omega.{arith}
 use lib.ListN.{length, set, length-append}
 use lib.Seq.{sets}
 use Rattle.strip.specs.declared.reader.Entry.{Entry}
-use Rattle.strip.specs.declared.reader.Entry.the-variants as Of
+use Rattle.strip.specs.declared.reader.Entry.the-variants as Entry
 use Rattle.strip.specs.Entry.{kindOf, refsOf, immediateOf, encode}
 use Rattle.strip.specs.Shape.{stripBytes}
 use Rattle.translation.specs.Code.{Code, ret, op, act, call, mark, ite, renamed, at as level, ats, Built, build}
@@ -25,26 +25,26 @@ sets-append [] ys l i j e = let h : j ≡ i = omega arith in rw h
 sets-append (x ∷ xs) ys l i j e = sets-append xs ys (set l i x) (suc i) j (omega arith)
 
 -- how long an entry is does not hang on its references
-abbrev pub sizeOf : Entry → ℕ
-sizeOf (Of.Bare k) = 1
-sizeOf (Of.Word w) = 5
-sizeOf (Of.Cell k n) = 2
-sizeOf (Of.Store k n r) = 4
-sizeOf (Of.One k a) = 3
-sizeOf (Of.Two k a b) = 5
-sizeOf (Of.Three k a b c) = 7
-sizeOf (Of.Four k a b c d) = 9
+abbrev pub entrySize : Entry → ℕ
+entrySize (Entry.Bare k) = 1
+entrySize (Entry.Word w) = 5
+entrySize (Entry.Cell k n) = 2
+entrySize (Entry.Store k n r) = 4
+entrySize (Entry.One k a) = 3
+entrySize (Entry.Two k a b) = 5
+entrySize (Entry.Three k a b c) = 7
+entrySize (Entry.Four k a b c d) = 9
 
-pub size-is : (f : ℕ → ℕ) (e : Entry) → length (encode (renamed f e)) ≡ sizeOf e
+pub size-is : (f : ℕ → ℕ) (e : Entry) → length (encode (renamed f e)) ≡ entrySize e
 unfolding encode kindOf immediateOf refsOf
-size-is f (Of.Bare k) = refl
-size-is f (Of.Word w) = refl
-size-is f (Of.Cell k n) = refl
-size-is f (Of.Store k n r) = refl
-size-is f (Of.One k a) = refl
-size-is f (Of.Two k a b) = refl
-size-is f (Of.Three k a b c) = refl
-size-is f (Of.Four k a b c d) = refl
+size-is f (Entry.Bare k) = refl
+size-is f (Entry.Word w) = refl
+size-is f (Entry.Cell k n) = refl
+size-is f (Entry.Store k n r) = refl
+size-is f (Entry.One k a) = refl
+size-is f (Entry.Two k a b) = refl
+size-is f (Entry.Three k a b c) = refl
+size-is f (Entry.Four k a b c d) = refl
 
 -- ---- how much at most, whatever the mode bits: entries, bytes, marks
 
@@ -58,8 +58,8 @@ bound (ite b c d) = max (bound c) (bound d)
 
 abbrev pub room : Code → ℕ
 room (ret l) = 0
-room (op e k) = sizeOf e + room k
-room (act e k) = sizeOf e + room k
+room (op e k) = entrySize e + room k
+room (act e k) = entrySize e + room k
 room (call c ls k) = room c + room k
 room (mark s u k) = room k
 room (ite b c d) = max (room c) (room d)
@@ -124,7 +124,7 @@ next-more (mark s u k) rs n = next-more k rs n
 next-more (ite true c d) rs n = next-more c rs n
 next-more (ite false c d) rs n = next-more d rs n
 
--- ---- the last mark that code raises, behind one that was raised before it
+-- ---- the last mark that code raises, after one that was raised before it
 
 pub record Mark : Type 0 where
   pub slot : ℕ
@@ -139,8 +139,8 @@ last (mark s n k) m = last k (record { slot = s; need = n })
 last (ite true c d) m = last c m
 last (ite false c d) m = last d m
 
-abbrev pub markOf : Buffer → Mark
-markOf b = record { slot = b .slot; need = b .need }
+abbrev pub raisedMark : Buffer → Mark
+raisedMark b = record { slot = b .slot; need = b .need }
 
 -- ---- from the buffer b to m, with the entries es written
 
@@ -166,12 +166,12 @@ module _ (b : Buffer) (m : Value) (r n : ℕ) (k : Mark) (xs : List ℕ) (b′ :
 
 -- the rest of the code, by the numbers that were built before it
 moved : (k : Code) (rs : List ℕ) (b : Buffer) (m : Value) (r x n : ℕ) (w : Mark) → r ≡ x → b .next ≡ n → b .slot ≡ w .slot → b .need ≡ w .need
-    → Fit b m (build k (rs ++ (r ∷ [])) (b .next) .entries) (build k (rs ++ (r ∷ [])) (b .next) .result) (build k (rs ++ (r ∷ [])) (b .next) .next) (last k (markOf b))
+    → Fit b m (build k (rs ++ (r ∷ [])) (b .next) .entries) (build k (rs ++ (r ∷ [])) (b .next) .result) (build k (rs ++ (r ∷ [])) (b .next) .next) (last k (raisedMark b))
     → Fit b m (build k (rs ++ (x ∷ [])) n .entries) (build k (rs ++ (x ∷ [])) n .result) (build k (rs ++ (x ∷ [])) n .next) (last k w)
-moved k rs b m r x n w e1 e2 e3 e4 f = let e : w ≡ markOf b = rw (e3, e4) in rw (← e1, ← e2, e) f
+moved k rs b m r x n w e1 e2 e3 e4 f = let e : w ≡ raisedMark b = rw (e3, e4) in rw (← e1, ← e2, e) f
 
 pub fits : (c : Code) (rs : List ℕ) (b : Buffer) → b .at + length (stripBytes (build c rs (b .next) .entries)) ≤ 255 → build c rs (b .next) .next ≤ 255
-    → Fit b (emits c rs b) (build c rs (b .next) .entries) (build c rs (b .next) .result) (build c rs (b .next) .next) (last c (markOf b))
+    → Fit b (emits c rs b) (build c rs (b .next) .entries) (build c rs (b .next) .result) (build c rs (b .next) .next) (last c (raisedMark b))
 unfolding emits made wrote raised build stripBytes
 fits (ret l) rs b h i = record { list = refl; at = omega arith; next = refl; number = refl; slot = refl; need = refl }
 fits (op e k) rs b h i =
@@ -197,7 +197,7 @@ fits (call c ls k) rs b h i =
     let m = emits c (ats rs ls) b in
     let hb : m .buffer .at + length (stripBytes (build k (rs ++ (m .number ∷ [])) (m .buffer .next) .entries)) ≤ 255 = rw (f .number, f .next) (omega (arith, f .at)) in
     let hn : build k (rs ++ (m .number ∷ [])) (m .buffer .next) .next ≤ 255 = rw (f .number, f .next) i in
-    let g = moved k rs (m .buffer) _ (m .number) (B .result) (B .next) (last c (markOf b)) (f .number) (f .next) (f .slot) (f .need) (fits k (rs ++ (m .number ∷ [])) (m .buffer) hb hn) in
+    let g = moved k rs (m .buffer) _ (m .number) (B .result) (B .next) (last c (raisedMark b)) (f .number) (f .next) (f .slot) (f .need) (fits k (rs ++ (m .number ∷ [])) (m .buffer) hb hn) in
     more b _ (D .result) (D .next) _ (stripBytes (B .entries)) (m .buffer) (f .list) (f .at) (B .entries ++ D .entries) (D .entries) (bytes-append (B .entries) (D .entries)) g
 fits (mark s u k) rs b h i =
     let f = fits k rs (record { list = b .list; at = b .at; next = b .next; slot = s; need = u }) h i in

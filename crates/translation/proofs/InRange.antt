@@ -9,27 +9,27 @@ use lib.Pow.{pow-pos, pow-lt, pow-sub-lt, ones-sub-lt}
 use native.Mathlib.Nat.{mod-lt}
 use borrow.Author.Tests.{ltb-true, lt-ltb, le-leb, eqb-false}
 use Rattle.strip.specs.declared.reader.Entry.{Entry}
-use Rattle.strip.specs.declared.reader.Entry.the-variants as Of
+use Rattle.strip.specs.declared.reader.Entry.the-variants as Entry
 use Rattle.strip.specs.Format.{formatOf}
 use Rattle.strip.specs.Entry.{kindOf, cellsOf}
 use Rattle.strip.specs.Shape.{all, cellIn, cellOk}
 use Rattle.strip.proofs.Tests.{and-left, and-right}
+use Rattle.strip.proofs.Run.{all-append}
 use Rattle.translation.specs.Insn.{Insn, bits, bit, simm20}
 use Rattle.translation.specs.Code.{Code, ret, op, act, call, mark, ite, renamed, at, ats, Built, build}
 use Rattle.translation.specs.Helpers.{r, set, predicate, setp, b2u, cbufAt, cbufImm, tableBit, extract, field, half16, videoOperand, intSource, widthOf, highest, lowest, clampHigh, saturateBy, saturateInt}
-use Rattle.translation.specs.Arms.{truthWord, vmnmxImm, p2rKeep, leaReg, leaCbuf, leaShift, maskOf, asked, cellBit, storeCell, r2pTurn, loadCell, p2rTurn}
-use Rattle.translation.proofs.Typed.{all-append}
+use Rattle.translation.specs.Arms.{truthWord, vmnmxImm, p2rKeep, leaReg, leaCbuf, leaShift, predicateMask, asked, cellBit, storeCell, r2pTurn, loadCell, p2rTurn}
 
 -- an entry's word, where it has one
 abbrev pub wordIn : Entry → Bool
-wordIn (Of.Bare k) = true
-wordIn (Of.Word w) = ltb w 4294967296
-wordIn (Of.Cell k n) = true
-wordIn (Of.Store k n r) = true
-wordIn (Of.One k a) = true
-wordIn (Of.Two k a b) = true
-wordIn (Of.Three k a b c) = true
-wordIn (Of.Four k a b c d) = true
+wordIn (Entry.Bare k) = true
+wordIn (Entry.Word w) = ltb w 4294967296
+wordIn (Entry.Cell k n) = true
+wordIn (Entry.Store k n r) = true
+wordIn (Entry.One k a) = true
+wordIn (Entry.Two k a b) = true
+wordIn (Entry.Three k a b c) = true
+wordIn (Entry.Four k a b c d) = true
 
 abbrev pub fits : Entry → Bool
 fits e = wordIn e && cellOk (formatOf (kindOf e)) e
@@ -52,14 +52,14 @@ inRange (ite b c d) = either b (inRange c) (inRange d)
 
 fits-renamed : (f : ℕ → ℕ) (e : Entry) → fits e ≡ true → fits (renamed f e) ≡ true
 unfolding kindOf cellOk cellsOf
-fits-renamed f (Of.Bare k) h = h
-fits-renamed f (Of.Word w) h = h
-fits-renamed f (Of.Cell k n) h = h
-fits-renamed f (Of.Store k n r) h = h
-fits-renamed f (Of.One k a) h = h
-fits-renamed f (Of.Two k a b) h = h
-fits-renamed f (Of.Three k a b c) h = h
-fits-renamed f (Of.Four k a b c d) h = h
+fits-renamed f (Entry.Bare k) h = h
+fits-renamed f (Entry.Word w) h = h
+fits-renamed f (Entry.Cell k n) h = h
+fits-renamed f (Entry.Store k n r) h = h
+fits-renamed f (Entry.One k a) h = h
+fits-renamed f (Entry.Two k a b) h = h
+fits-renamed f (Entry.Three k a b c) h = h
+fits-renamed f (Entry.Four k a b c d) h = h
 
 pub taken : (x y : Bool) → either true x y ≡ true → x ≡ true
 unfolding either
@@ -108,7 +108,7 @@ vmnmx-imm-lt i = cond-lt (bit i 49 && bit i 35) _ _ _ (omega (arith, bits-lt i 2
 
 pub p2r-keep-lt : (i : Insn) → p2rKeep i < 4294967296
 unfolding p2rKeep
-p2r-keep-lt i = ones-sub-lt 32 (maskOf i % 256 * 2 ^ (bits i 41 2 * 8))
+p2r-keep-lt i = ones-sub-lt 32 (predicateMask i % 256 * 2 ^ (bits i 41 2 * 8))
 
 pub lea-shift-lt : (i : Insn) → leaShift i < 32
 unfolding leaShift
@@ -206,7 +206,7 @@ cell-bit-lt i k h = pow-lt {i = bits i 41 2 * 8 + k} {j = 32} (omega (arith, bit
 
 asked-cell : (i : Insn) (k : ℕ) → asked i k ≡ true → ltb k 4 || not (bit i 40) ≡ true
 unfolding asked
-asked-cell i k a = and-right (tableBit (maskOf i) k) _ a
+asked-cell i k a = and-right (tableBit (predicateMask i) k) _ a
 
 module _ (k : ℕ) (h : k < 7) where
   of-either : (flag x y : Bool) → ltb k 4 || not flag ≡ true → (k < 4 → x ≡ true) → y ≡ true → either flag x y ≡ true

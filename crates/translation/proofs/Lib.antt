@@ -8,7 +8,7 @@ pub mod Arms
 pub mod Marked
 pub mod Decided
 pub mod Whole
-pub mod Ordered
+pub mod WellFormed
 pub mod Shape
 pub mod Sem
 pub mod Stays

@@ -9,7 +9,7 @@ use lib.ListN.{length, length-append, List·getD-append}
 use lib.Seq.{getD-append-seam}
 use borrow.Author.Tests.{ltb-true, lt-ltb, eqb-true, not-true}
 use Rattle.strip.specs.declared.reader.Entry.{Entry}
-use Rattle.strip.specs.declared.reader.Entry.the-variants as Of
+use Rattle.strip.specs.declared.reader.Entry.the-variants as Entry
 use Rattle.strip.specs.Entry.{refsOf}
 use Rattle.strip.proofs.Tests.{and-left, and-right}
 use Rattle.strip.proofs.Run.{Each}
@@ -20,16 +20,16 @@ use Rattle.evaluation.specs.declared.machine.Outcome.the-variants.{Refused}
 use Rattle.evaluation.specs.declared.machine.Refusal.{Refusal}
 use Rattle.evaluation.specs.declared.machine.Refusal.the-variants.{BadShape, UndefinedValue}
 use Rattle.evaluation.specs.State.{storedReg, storedPred, storedFlag}
-use Rattle.evaluation.specs.Machine.{Effect, Push, SetReg, SetPred, SetFlag, Enter, Pass, Finish, Refuse, Midway, storingWord, storingTruth, storing, bareEffect, cellEffect, oneEffect, fourEffect, valueAt, effectOf, stepOf, outcomeOf, pushed, applied, ends, entriesFrom}
+use Rattle.evaluation.specs.Machine.{Effect, Push, SetReg, SetPred, SetFlag, Enter, Pass, Finish, Refuse, Midway, storingWord, storingTruth, storing, bareEffect, cellEffect, oneEffect, fourEffect, valueAt, effectOf, takenEffect, outcomeOf, pushed, applied, ends, entriesFrom}
 use Rattle.evaluation.proofs.Laws.{cond-all, with-word, with-truth, address-all}
-use Rattle.translation.specs.Code.{Code, ret, op, act, call, mark, ite, renamed, at, ats, Built, behind, build}
+use Rattle.translation.specs.Code.{Code, ret, op, act, call, mark, ite, renamed, at, ats, Built, prefixed, build}
 use Rattle.translation.proofs.Fits.{bound, next-bound}
-use Rattle.translation.proofs.Typed.{givesValue, givesNone, within, closed}
+use Rattle.translation.proofs.Typed.{givesValue, givesNone, within, closed, length-last}
 
 -- ---- running code
 
 pub data Ran : Type 0 where
-  -- the state behind it, and the result
+  -- the state after it, and the result
   ran : State → Value → Ran
   -- a refusal, and the state at it
   halted : Refusal → State → Ran
@@ -49,7 +49,7 @@ pushing Pass s f = halted BadShape s
 pushing Finish s f = halted BadShape s
 pushing (Refuse r) s f = halted r s
 
--- on with the state behind an effect that makes none
+-- on with the state after an effect that makes none
 abbrev pub acting : Effect → State → (State → Ran) → Ran
 acting (Push v) s f = halted BadShape s
 acting (SetReg n w) s f = f (storedReg s n w)
@@ -107,28 +107,28 @@ bare-pushes false false h x y z p q = absurd (false≢true h)
 
 pub pushes : (m : Midway) (e : Entry) (cs : List ℕ) → givesValue e ≡ true → Pushes (effectOf m e cs)
 unfolding effectOf bareEffect cellEffect oneEffect fourEffect
-pushes m (Of.Bare k) cs h = bare-pushes (eqb k 2) (eqb k 3) h (Push (Truth true)) (Push (Truth false)) (cond (eqb k 255) Finish Pass) tt tt
-pushes m (Of.Word w) cs h = tt
-pushes m (Of.Cell k n) cs h = rw (not-true (eqb k 110) h) (cond-all Pushes (eqb k 10) _ _ tt tt)
-pushes m (Of.Store k n r) cs h = absurd (false≢true h)
-pushes m (Of.One k a) cs h = rw (not-true (eqb k 100) h) (cond-all Pushes (eqb k 12) _ _ tt (cond-all Pushes (eqb k 80) _ _ tt tt))
-pushes m (Of.Two k a b) cs h = tt
-pushes m (Of.Three k a b c) cs h = tt
-pushes m (Of.Four k a b c d) cs h = cond-all Pushes (eqb k 11) _ _ (address-all Pushes (λ r. tt) (λ v. tt) _ _ _ _ _) tt
+pushes m (Entry.Bare k) cs h = bare-pushes (eqb k 2) (eqb k 3) h (Push (Truth true)) (Push (Truth false)) (cond (eqb k 255) Finish Pass) tt tt
+pushes m (Entry.Word w) cs h = tt
+pushes m (Entry.Cell k n) cs h = rw (not-true (eqb k 110) h) (cond-all Pushes (eqb k 10) _ _ tt tt)
+pushes m (Entry.Store k n r) cs h = absurd (false≢true h)
+pushes m (Entry.One k a) cs h = rw (not-true (eqb k 100) h) (cond-all Pushes (eqb k 12) _ _ tt (cond-all Pushes (eqb k 80) _ _ tt tt))
+pushes m (Entry.Two k a b) cs h = tt
+pushes m (Entry.Three k a b c) cs h = tt
+pushes m (Entry.Four k a b c d) cs h = cond-all Pushes (eqb k 11) _ _ (address-all Pushes (λ r. tt) (λ v. tt) _ _ _ _ _) tt
 
 pub acts : (m : Midway) (e : Entry) (cs : List ℕ) → givesNone e ≡ true → Acts (effectOf m e cs)
 unfolding effectOf cellEffect storing storingWord storingTruth
-acts m (Of.Bare k) cs h = absurd (false≢true h)
-acts m (Of.Word w) cs h = absurd (false≢true h)
-acts m (Of.Cell k n) cs h = rw (eqb-true k 110 h) tt
-acts m (Of.Store k n r) cs h =
+acts m (Entry.Bare k) cs h = absurd (false≢true h)
+acts m (Entry.Word w) cs h = absurd (false≢true h)
+acts m (Entry.Cell k n) cs h = rw (eqb-true k 110 h) tt
+acts m (Entry.Store k n r) cs h =
     cond-all Acts (eqb k 7) _ _
     (with-word Acts (Refuse UndefinedValue) (valueAt (m .values) r) _ tt (λ x. tt))
     (with-truth Acts (Refuse UndefinedValue) (valueAt (m .values) r) _ tt (λ t. cond-all Acts (eqb k 8) _ _ tt tt))
-acts m (Of.One k a) cs h = absurd (false≢true h)
-acts m (Of.Two k a b) cs h = absurd (false≢true h)
-acts m (Of.Three k a b c) cs h = absurd (false≢true h)
-acts m (Of.Four k a b c d) cs h = absurd (false≢true h)
+acts m (Entry.One k a) cs h = absurd (false≢true h)
+acts m (Entry.Two k a b) cs h = absurd (false≢true h)
+acts m (Entry.Three k a b c) cs h = absurd (false≢true h)
+acts m (Entry.Four k a b c d) cs h = absurd (false≢true h)
 
 -- ---- levels, and what they stand for among the values of a strip
 
@@ -189,19 +189,16 @@ level-more all more g (r ∷ rs) (v ∷ vs) e = (omega (arith, e .0, g .grows), 
 effect-renamed : (s : State) (all vs : List Value) (rs : List ℕ) (e : Entry) (cs : List ℕ) → Each (λ l. valueAt all (at rs l) ≡ valueAt vs l) (refsOf e)
     → effectOf (mid s all) (renamed (at rs) e) cs ≡ effectOf (mid s vs) e cs
 unfolding effectOf refsOf
-effect-renamed s all vs rs (Of.Bare k) cs h = refl
-effect-renamed s all vs rs (Of.Word w) cs h = refl
-effect-renamed s all vs rs (Of.Cell k n) cs h = refl
-effect-renamed s all vs rs (Of.Store k n r) cs h = rw (h .0)
-effect-renamed s all vs rs (Of.One k a) cs h = rw (h .0)
-effect-renamed s all vs rs (Of.Two k a b) cs h = rw (h .0, h .1 .0)
-effect-renamed s all vs rs (Of.Three k a b c) cs h = rw (h .0, h .1 .0, h .1 .1 .0)
-effect-renamed s all vs rs (Of.Four k a b c d) cs h = rw (h .0, h .1 .0, h .1 .1 .0, h .1 .1 .1 .0)
+effect-renamed s all vs rs (Entry.Bare k) cs h = refl
+effect-renamed s all vs rs (Entry.Word w) cs h = refl
+effect-renamed s all vs rs (Entry.Cell k n) cs h = refl
+effect-renamed s all vs rs (Entry.Store k n r) cs h = rw (h .0)
+effect-renamed s all vs rs (Entry.One k a) cs h = rw (h .0)
+effect-renamed s all vs rs (Entry.Two k a b) cs h = rw (h .0, h .1 .0)
+effect-renamed s all vs rs (Entry.Three k a b c) cs h = rw (h .0, h .1 .0, h .1 .1 .0)
+effect-renamed s all vs rs (Entry.Four k a b c d) cs h = rw (h .0, h .1 .0, h .1 .1 .0, h .1 .1 .1 .0)
 
 -- ---- what is built does the same
-
-length-last : {A : Type 0} (l : List A) (x : A) → length (l ++ (x ∷ [])) ≡ suc (length l)
-length-last l x = length-append l (x ∷ []) ∙ omega arith
 
 module _ (cs : List ℕ) where
   -- from the values `all` to more of them
@@ -218,9 +215,9 @@ module _ (cs : List ℕ) where
   Follows s all b (halted r t) = (rest : List Entry) → entriesFrom cs (mid s all) (b .entries ++ rest) ≡ ends (Refused r) t
 
   -- entries, and then what is built
-  prefixed : (s t : State) (all more : List Value) (xs : List Entry) (b : Built) → Longer all more
-      → ((rest : List Entry) → entriesFrom cs (mid s all) (xs ++ rest) ≡ entriesFrom cs (mid t more) rest) → (r : Ran) → Follows t more b r → Follows s all (behind xs b) r
-  prefixed s t all more xs b g h (ran u v) f = record {
+  follows-prefixed : (s t : State) (all more : List Value) (xs : List Entry) (b : Built) → Longer all more
+      → ((rest : List Entry) → entriesFrom cs (mid s all) (xs ++ rest) ≡ entriesFrom cs (mid t more) rest) → (r : Ran) → Follows t more b r → Follows s all (prefixed xs b) r
+  follows-prefixed s t all more xs b g h (ran u v) f = record {
     values = f .values;
     longer = longer-trans g (f .longer);
     goes = λ rest. rw (append-assoc xs (b .entries) rest) (h (b .entries ++ rest) ∙ f .goes rest);
@@ -228,31 +225,31 @@ module _ (cs : List ℕ) where
     within = f .within;
     result = f .result;
   }
-  prefixed s t all more xs b g h (halted r u) f = λ rest. rw (append-assoc xs (b .entries) rest) (h (b .entries ++ rest) ∙ f rest)
+  follows-prefixed s t all more xs b g h (halted r u) f = λ rest. rw (append-assoc xs (b .entries) rest) (h (b .entries ++ rest) ∙ f rest)
 
   module _ (s : State) (all : List Value) (e : Entry) where
     step-push : (v : Value) → effectOf (mid s all) e cs ≡ Push v → length all < 64 → (rest : List Entry) → entriesFrom cs (mid s all) (e ∷ rest) ≡ entriesFrom cs (mid s (all ++ (v ∷ []))) rest
-    unfolding entriesFrom stepOf outcomeOf applied pushed
+    unfolding entriesFrom takenEffect outcomeOf applied pushed
     step-push v q h rest = rw (q, lt-ltb (length all) 64 h) refl
 
     step-refuse : (r : Refusal) → effectOf (mid s all) e cs ≡ Refuse r → (rest : List Entry) → entriesFrom cs (mid s all) (e ∷ rest) ≡ ends (Refused r) s
-    unfolding entriesFrom stepOf outcomeOf
+    unfolding entriesFrom takenEffect outcomeOf
     step-refuse r q rest = rw q refl
 
     step-reg : (n w : ℕ) → effectOf (mid s all) e cs ≡ SetReg n w → (rest : List Entry) → entriesFrom cs (mid s all) (e ∷ rest) ≡ entriesFrom cs (mid (storedReg s n w) all) rest
-    unfolding entriesFrom stepOf outcomeOf applied
+    unfolding entriesFrom takenEffect outcomeOf applied
     step-reg n w q rest = rw q refl
 
     step-pred : (n : ℕ) (t : Bool) → effectOf (mid s all) e cs ≡ SetPred n t → (rest : List Entry) → entriesFrom cs (mid s all) (e ∷ rest) ≡ entriesFrom cs (mid (storedPred s n t) all) rest
-    unfolding entriesFrom stepOf outcomeOf applied
+    unfolding entriesFrom takenEffect outcomeOf applied
     step-pred n t q rest = rw q refl
 
     step-flag : (n : ℕ) (t : Bool) → effectOf (mid s all) e cs ≡ SetFlag n t → (rest : List Entry) → entriesFrom cs (mid s all) (e ∷ rest) ≡ entriesFrom cs (mid (storedFlag s n t) all) rest
-    unfolding entriesFrom stepOf outcomeOf applied
+    unfolding entriesFrom takenEffect outcomeOf applied
     step-flag n t q rest = rw q refl
 
     step-pass : effectOf (mid s all) e cs ≡ Pass → (rest : List Entry) → entriesFrom cs (mid s all) (e ∷ rest) ≡ entriesFrom cs (mid s all) rest
-    unfolding entriesFrom stepOf outcomeOf applied
+    unfolding entriesFrom takenEffect outcomeOf applied
     step-pass q rest = rw q refl
 
   value-last : (all : List Value) (v : Value) → valueAt (all ++ (v ∷ [])) (length all) ≡ v
@@ -279,10 +276,10 @@ module _ (cs : List ℕ) where
       go : (f : Effect) → effectOf (mid s vs) e cs ≡ f → Pushes f
           → ((v : Value) → closed (length (rs ++ (length all ∷ []))) k ≡ true → Levels (all ++ (v ∷ [])) (rs ++ (length all ∷ [])) (vs ++ (v ∷ [])) → length (all ++ (v ∷ [])) + bound k ≤ 64
           → Follows s (all ++ (v ∷ [])) (build k (rs ++ (length all ∷ [])) (length (all ++ (v ∷ [])))) (sem cs k (vs ++ (v ∷ [])) s))
-          → Follows s all (behind (renamed (at rs) e ∷ []) (build k (rs ++ (length all ∷ [])) (suc (length all)))) (pushing f s (λ v. sem cs k (vs ++ (v ∷ [])) s))
+          → Follows s all (prefixed (renamed (at rs) e ∷ []) (build k (rs ++ (length all ∷ [])) (suc (length all)))) (pushing f s (λ v. sem cs k (vs ++ (v ∷ [])) s))
       go (Push v) q p ih =
           let x = ih v rest-closed (levels v) (rw (length-last all v) (omega arith)) in
-          prefixed s s all (all ++ (v ∷ [])) (renamed (at rs) e ∷ []) (build k (rs ++ (length all ∷ [])) (suc (length all))) (longer-last all v) (step-push s all (renamed (at rs) e) v (same ∙ q) (omega arith)) (sem cs k (vs ++ (v ∷ [])) s) (rw (← length-last all v) x)
+          follows-prefixed s s all (all ++ (v ∷ [])) (renamed (at rs) e ∷ []) (build k (rs ++ (length all ∷ [])) (suc (length all))) (longer-last all v) (step-push s all (renamed (at rs) e) v (same ∙ q) (omega arith)) (sem cs k (vs ++ (v ∷ [])) s) (rw (← length-last all v) x)
       go (SetReg i w) q p ih = absurd p
       go (SetPred i t) q p ih = absurd p
       go (SetFlag i t) q p ih = absurd p
@@ -296,13 +293,13 @@ module _ (cs : List ℕ) where
       same = effect-renamed s all vs rs e cs (level-each all rs vs lv (refsOf e) (and-left (within (length rs) (refsOf e)) _ (and-right (givesNone e) _ h)))
 
       go : (f : Effect) → effectOf (mid s vs) e cs ≡ f → Acts f → ((t : State) → Follows t all (build k rs (length all)) (sem cs k vs t))
-          → Follows s all (behind (renamed (at rs) e ∷ []) (build k rs (length all))) (acting f s (λ t. sem cs k vs t))
+          → Follows s all (prefixed (renamed (at rs) e ∷ []) (build k rs (length all))) (acting f s (λ t. sem cs k vs t))
       go (Push v) q p ih = absurd p
-      go (SetReg i w) q p ih = prefixed s (storedReg s i w) all all (renamed (at rs) e ∷ []) (build k rs (length all)) (longer-refl all) (step-reg s all (renamed (at rs) e) i w (same ∙ q)) (sem cs k vs (storedReg s i w)) (ih (storedReg s i w))
-      go (SetPred i t) q p ih = prefixed s (storedPred s i t) all all (renamed (at rs) e ∷ []) (build k rs (length all)) (longer-refl all) (step-pred s all (renamed (at rs) e) i t (same ∙ q)) (sem cs k vs (storedPred s i t)) (ih (storedPred s i t))
-      go (SetFlag i t) q p ih = prefixed s (storedFlag s i t) all all (renamed (at rs) e ∷ []) (build k rs (length all)) (longer-refl all) (step-flag s all (renamed (at rs) e) i t (same ∙ q)) (sem cs k vs (storedFlag s i t)) (ih (storedFlag s i t))
+      go (SetReg i w) q p ih = follows-prefixed s (storedReg s i w) all all (renamed (at rs) e ∷ []) (build k rs (length all)) (longer-refl all) (step-reg s all (renamed (at rs) e) i w (same ∙ q)) (sem cs k vs (storedReg s i w)) (ih (storedReg s i w))
+      go (SetPred i t) q p ih = follows-prefixed s (storedPred s i t) all all (renamed (at rs) e ∷ []) (build k rs (length all)) (longer-refl all) (step-pred s all (renamed (at rs) e) i t (same ∙ q)) (sem cs k vs (storedPred s i t)) (ih (storedPred s i t))
+      go (SetFlag i t) q p ih = follows-prefixed s (storedFlag s i t) all all (renamed (at rs) e ∷ []) (build k rs (length all)) (longer-refl all) (step-flag s all (renamed (at rs) e) i t (same ∙ q)) (sem cs k vs (storedFlag s i t)) (ih (storedFlag s i t))
       go (Enter t) q p ih = absurd p
-      go Pass q p ih = prefixed s s all all (renamed (at rs) e ∷ []) (build k rs (length all)) (longer-refl all) (step-pass s all (renamed (at rs) e) (same ∙ q)) (sem cs k vs s) (ih s)
+      go Pass q p ih = follows-prefixed s s all all (renamed (at rs) e ∷ []) (build k rs (length all)) (longer-refl all) (step-pass s all (renamed (at rs) e) (same ∙ q)) (sem cs k vs s) (ih s)
       go Finish q p ih = absurd p
       go (Refuse r) q p ih = λ rest. step-refuse s all (renamed (at rs) e) r (same ∙ q) (build k rs (length all) .entries ++ rest)
   follows (call c ls k) rs vs all s h lv n =
@@ -319,12 +316,12 @@ module _ (cs : List ℕ) where
 
       go : (r : Ran) → Follows s all (build c (ats rs ls) (length all)) r
           → ((t : State) (more : List Value) (r : ℕ) (v : Value) → closed (length (rs ++ (r ∷ []))) k ≡ true → Levels more (rs ++ (r ∷ [])) (vs ++ (v ∷ [])) → length more + bound k ≤ 64 → Follows t more (build k (rs ++ (r ∷ [])) (length more)) (sem cs k (vs ++ (v ∷ [])) t))
-          → Follows s all (behind (build c (ats rs ls) (length all) .entries) (build k (rs ++ (build c (ats rs ls) (length all) .result ∷ [])) (build c (ats rs ls) (length all) .next))) (followed r (λ t v. sem cs k (vs ++ (v ∷ [])) t))
+          → Follows s all (prefixed (build c (ats rs ls) (length all) .entries) (build k (rs ++ (build c (ats rs ls) (length all) .result ∷ [])) (build c (ats rs ls) (length all) .next))) (followed r (λ t v. sem cs k (vs ++ (v ∷ [])) t))
       go (ran t v) f ih =
           let b = build c (ats rs ls) (length all) in
           let closes : closed (length (rs ++ (b .result ∷ []))) k ≡ true = rw (length-last rs (b .result)) (and-right (closed (length ls) c) _ (and-right (within (length rs) ls) _ h)) in
           let x = ih t (f .values) (b .result) v closes (level-last (f .values) rs vs (b .result) v (level-more all (f .values) (f .longer) rs vs lv) (f .within) (f .result)) (omega (arith, f .next, next-bound c (ats rs ls) (length all))) in
-          prefixed s t all (f .values) (b .entries) (build k (rs ++ (b .result ∷ [])) (b .next)) (f .longer) (f .goes) (sem cs k (vs ++ (v ∷ [])) t) (rw (f .next) x)
+          follows-prefixed s t all (f .values) (b .entries) (build k (rs ++ (b .result ∷ [])) (b .next)) (f .longer) (f .goes) (sem cs k (vs ++ (v ∷ [])) t) (rw (f .next) x)
       go (halted r t) f ih = λ rest. rw (append-assoc (build c (ats rs ls) (length all) .entries) (build k (rs ++ (build c (ats rs ls) (length all) .result ∷ [])) (build c (ats rs ls) (length all) .next) .entries) rest) (f (build k (rs ++ (build c (ats rs ls) (length all) .result ∷ [])) (build c (ats rs ls) (length all) .next) .entries ++ rest))
   follows (mark i u k) rs vs all s h lv n = again (sem cs k vs s) (follows k rs vs all s h lv n)
     where

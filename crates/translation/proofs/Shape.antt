@@ -1,4 +1,4 @@
--- Every strip of a translation is in order (T5): it passes the shape test, and its bytes are the encoding of its entries.
+-- Every strip of a translation is well-formed (T5): it passes the shape test, and its bytes are the encoding of its entries.
 use mathlib.Core.Path.{_≡_, refl, sym, ap}
 use mathlib.Core.Bool.{Bool, true, false, cond, not, _&&_, false≢true}
 use mathlib.Core.List.{List, [], _∷_, _++_, append-nil}
@@ -9,37 +9,37 @@ use lib.Dec.{eqb, ltb, leb}
 use lib.ListN.{length, getD, take, drop, length-append, length-drop}
 use lib.Seq.{take-at}
 use borrow.Author.Tests.{leb-true}
-use Rattle.strip.specs.declared.reader.Entry.the-variants as Of
-use Rattle.strip.specs.Shape.{names, ended, stripOk, decode, shapeOk, stripBytes, runBytes}
+use Rattle.strip.specs.declared.reader.Entry.the-variants as Entry
+use Rattle.strip.specs.Shape.{names, endsOnce, stripOk, decode, shapeOk, stripBytes, runBytes}
 use Rattle.strip.proofs.Tests.{and-left}
 use Rattle.strip.proofs.Run.{strips-run, strips-shape}
 use Rattle.translation.specs.Insn.{Insn}
 use Rattle.translation.specs.Code.{Code, build}
 use Rattle.translation.specs.Helpers.{p}
 use Rattle.translation.specs.Arms.{armOf}
-use Rattle.translation.specs.Strip.{Decision, guard, guardNot, block, guarded, entriesOf, strip, marked, insnOf, known, laneMov, byteThree, admits, refused, fitted, admitted, decision, written}
-use Rattle.translation.specs.declared.answer.Outcome.{Outcome}
+use Rattle.translation.specs.Strip.{Decision, guard, guardNot, block, guarded, entriesOf, strip, marked, insnOf, known, systemValueMov, byteThree, admits, refused, fitted, admitted, decision, lengthOf}
+use Rattle.translation.specs.Turn.{isWritten}
 use Rattle.translation.specs.declared.answer.Outcome.the-variants.{Written, Refused}
 use Rattle.translation.specs.declared.answer.Refusal.{Refusal}
-use Rattle.translation.specs.declared.answer.Refusal.the-variants.{BadLength, UnknownKind, UnknownForm, LaneMov, ByteThree, NoRoom}
+use Rattle.translation.specs.declared.answer.Refusal.the-variants.{BadLength, UnknownKind, UnknownForm, SystemValueMov, ByteThree, NoRoom}
 use Rattle.translation.proofs.Fits.{bounded}
 use Rattle.translation.proofs.Arms.{arm-sized, arm-range, guard-sized, guard-kind, guard-range}
 use Rattle.translation.proofs.Typed.{typed, made, no-refs, sound}
 use Rattle.translation.proofs.InRange.{inRange, ranged, bits-lt}
-use Rattle.translation.proofs.Ordered.{Piece, InOrder, plain, in-block}
+use Rattle.translation.proofs.WellFormed.{Piece, WellFormed, plain, in-block}
 
--- what typed code with numbers in range builds is in order
+-- what typed code with numbers in range builds is well-formed
 piece : (c : Code) (before : List ℕ) → typed [] c ≡ true → inRange c ≡ true → Piece before (build c [] (length before) .entries)
 piece c before t r =
     let s = sound c before [] [] tt t in
     record { inside = s .inside; bodies = s .bodies; numbers = ranged c [] (length before) r; refs = s .refs }
 
--- T5: the strip of every kind and word is in order
-pub strip-in-order : (k : ℕ) (i : Insn) → InOrder (entriesOf k i)
+-- T5: the strip of every kind and word is well-formed
+pub strip-well-formed : (k : ℕ) (i : Insn) → WellFormed (entriesOf k i)
 unfolding entriesOf guarded
-strip-in-order k i = go (eqb (guard i) 7) (guardNot i)
+strip-well-formed k i = go (eqb (guard i) 7) (guardNot i)
   where
-    go : (always not : Bool) → InOrder (cond always (cond not [] (build (armOf k i) [] 0 .entries)) (block (build (p (guard i) (guardNot i)) [] 0) (armOf k i)) ++ (Of.Bare 255 ∷ []))
+    go : (always not : Bool) → WellFormed (cond always (cond not [] (build (armOf k i) [] 0 .entries)) (block (build (p (guard i) (guardNot i)) [] 0) (armOf k i)) ++ (Entry.Bare 255 ∷ []))
     go true true = plain [] (record { inside = refl; bodies = refl; numbers = refl; refs = no-refs [] }) (omega arith)
     go true false =
         plain (build (armOf k i) [] 0 .entries) (piece (armOf k i) [] (arm-sized k i .typed) (arm-range k i))
@@ -62,20 +62,16 @@ strip-run k i = sym (append-nil (stripBytes (entriesOf k i)))
 
 pub strip-shape : (k : ℕ) (i : Insn) → shapeOk (strip k i) ≡ true
 strip-shape k i =
-    let o = strip-in-order k i in
+    let o = strip-well-formed k i in
     rw (strip-run k i) (strips-shape (entriesOf k i ∷ []) (o .formed, tt) (rw (o .passes) refl))
 
 pub strip-decodes : (k : ℕ) (i : Insn) → decode (strip k i) ≡ some (entriesOf k i ∷ [])
 unfolding stripOk
 strip-decodes k i =
-    let o = strip-in-order k i in
-    rw (strip-run k i) (strips-run (entriesOf k i ∷ []) (record { ends = and-left (ended (entriesOf k i)) _ (o .passes); formed = o .formed }, tt))
+    let o = strip-well-formed k i in
+    rw (strip-run k i) (strips-run (entriesOf k i ∷ []) (record { ends = and-left (endsOnce (entriesOf k i)) _ (o .passes); formed = o .formed }, tt))
 
 -- ---- for every record, marks and room
-
-abbrev isWritten : Outcome → Bool
-isWritten (Written n) = true
-isWritten (Refused r) = false
 
 -- what an accepted translation hands back
 pub record Accepted (l m room : List ℕ) (n : ℕ) (r : Decision) : Type 0 where
@@ -85,9 +81,9 @@ pub record Accepted (l m room : List ℕ) (n : ℕ) (r : Decision) : Type 0 wher
   pub out : r .out ≡ strip (getD l 0 0) (insnOf l) ++ drop n room
 
 pub accepted : (l m out : List ℕ) (n : ℕ) → decision l m out .outcome ≡ Written n → (admits l ≡ true) × Accepted l m out n (decision l m out)
-unfolding decision admitted fitted admits written
+unfolding decision admitted fitted admits lengthOf
 accepted l m out n h =
-    go (eqb (length l) 18) (known k) (ltb 2 (insnOf l .form)) (laneMov k (insnOf l)) (byteThree k (insnOf l)) (leb (length s) (length out)) (leb-true (length s) (length out)) h
+    go (eqb (length l) 18) (known k) (ltb 2 (insnOf l .form)) (systemValueMov k (insnOf l)) (byteThree k (insnOf l)) (leb (length s) (length out)) (leb-true (length s) (length out)) h
   where
     k : ℕ
     k = getD l 0 0
@@ -104,14 +100,14 @@ accepted l m out n h =
     full : Decision
     full = record { outcome = Written (length s); marks = marked k (insnOf l) m; out = s ++ drop (length s) out }
 
-    go : (a b c d e f : Bool) → (f ≡ true → length s ≤ length out) → Case (a && (b && (not c && (not d && not e)))) (cond a (cond b (cond c (refused UnknownForm m out) (cond d (refused LaneMov m out) (cond e (refused ByteThree m out) (cond f full (refused NoRoom m out))))) (refused UnknownKind m out)) (refused BadLength m out))
+    go : (a b c d e f : Bool) → (f ≡ true → length s ≤ length out) → Case (a && (b && (not c && (not d && not e)))) (cond a (cond b (cond c (refused UnknownForm m out) (cond d (refused SystemValueMov m out) (cond e (refused ByteThree m out) (cond f full (refused NoRoom m out))))) (refused UnknownKind m out)) (refused BadLength m out))
     go false b c d e f w = none false BadLength
     go true false c d e f w = none false UnknownKind
     go true true true d e f w = none false UnknownForm
-    go true true false true e f w = none false LaneMov
+    go true true false true e f w = none false SystemValueMov
     go true true false false true f w = none false ByteThree
     go true true false false false false w = none true NoRoom
-    go true true false false false true w = λ x. let q : length s ≡ n = ap written x in (refl, record { size = sym q; fits = rw (← q) (w refl); marks = refl; out = ap (λ (j : ℕ). s ++ drop j out) q })
+    go true true false false false true w = λ x. let q : length s ≡ n = ap lengthOf x in (refl, record { size = sym q; fits = rw (← q) (w refl); marks = refl; out = ap (λ (j : ℕ). s ++ drop j out) q })
 
 -- the bytes of an accepted record are one strip that passes the shape test: that of its entries
 pub accepted-strip : (l m out : List ℕ) (n : ℕ) → decision l m out .outcome ≡ Written n → take n (decision l m out .out) ≡ strip (getD l 0 0) (insnOf l)
@@ -123,10 +119,10 @@ accepted-shape l m out n h = rw (accepted-strip l m out n h) (strip-shape (getD 
 -- an answer keeps the room's length, and what it writes fits
 pub record Fitting (out : List ℕ) (a : Decision) : Type 0 where
   pub same : length (a .out) ≡ length out
-  pub within : written (a .outcome) ≤ length out
+  pub within : lengthOf (a .outcome) ≤ length out
 
 refused-fits : (r : Refusal) (m out : List ℕ) → Fitting out (refused r m out)
-unfolding written
+unfolding lengthOf
 refused-fits r m out = record { same = refl; within = omega arith }
 
 either-fits : (b : Bool) (x y : Decision) (out : List ℕ) → Fitting out x → Fitting out y → Fitting out (cond b x y)
@@ -134,7 +130,7 @@ either-fits true x y out p q = p
 either-fits false x y out p q = q
 
 fitted-fits : (k : ℕ) (i : Insn) (m out : List ℕ) → Fitting out (fitted k i m out)
-unfolding fitted written
+unfolding fitted lengthOf
 fitted-fits k i m out = by (leb (length (strip k i)) (length out)) refl
   where
     by : (b : Bool) → leb (length (strip k i)) (length out) ≡ b → Fitting out (fitted k i m out)
@@ -147,7 +143,7 @@ fits l m out =
     let k = getD l 0 0 in
     let i = insnOf l in
     let three = either-fits (byteThree k i) _ _ out (refused-fits ByteThree m out) (fitted-fits k i m out) in
-    let lane = either-fits (laneMov k i) _ _ out (refused-fits LaneMov m out) three in
-    let form = either-fits (ltb 2 (i .form)) _ _ out (refused-fits UnknownForm m out) lane in
+    let system = either-fits (systemValueMov k i) _ _ out (refused-fits SystemValueMov m out) three in
+    let form = either-fits (ltb 2 (i .form)) _ _ out (refused-fits UnknownForm m out) system in
     let kind = either-fits (known k) _ _ out form (refused-fits UnknownKind m out) in
     either-fits (eqb (length l) 18) _ _ out kind (refused-fits BadLength m out)

@@ -9,7 +9,7 @@ use lib.ListN.{length, getD, set, length-set}
 use lib.Seq.{getD-set-same, getD-set-other, set-out}
 use borrow.Author.Tests.{ltb-true, ltb-false, eqb-true, eqb-false}
 use Rattle.strip.specs.declared.reader.Entry.{Entry}
-use Rattle.strip.specs.declared.reader.Entry.the-variants as Of
+use Rattle.strip.specs.declared.reader.Entry.the-variants as Entry
 use Rattle.strip.proofs.Tests.{and-left, and-right}
 use Rattle.evaluation.specs.declared.value.Value.{Value}
 use Rattle.evaluation.specs.declared.value.Value.the-variants.{Undefined, Word, Truth, Slot, Address}
@@ -123,18 +123,18 @@ module _ (cs : List ℕ) (s : State) (vs : List Value) (w : Proper cs s) (h : (l
 
   effect-sized : (e : Entry) → wordIn e ≡ true → SizedEffect (effectOf (mid s vs) e cs)
   unfolding effectOf bareEffect cellEffect fourEffect storing storingWord storingTruth
-  effect-sized (Of.Bare k) q =
+  effect-sized (Entry.Bare k) q =
       cond-all SizedEffect (eqb k 2) _ _ (truth-sized true) (cond-all SizedEffect (eqb k 3) _ _ (truth-sized false) (cond-all SizedEffect (eqb k 255) _ _ tt tt))
-  effect-sized (Of.Word x) q = word-sized (ltb-true x (2 ^ 32) q)
-  effect-sized (Of.Cell k n) q = cond-all SizedEffect (eqb k 10) _ _ (slot-sized n) (cond-all SizedEffect (eqb k 110) _ _ tt (load-sized k n))
-  effect-sized (Of.Store k n r) q =
+  effect-sized (Entry.Word x) q = word-sized (ltb-true x (2 ^ 32) q)
+  effect-sized (Entry.Cell k n) q = cond-all SizedEffect (eqb k 10) _ _ (slot-sized n) (cond-all SizedEffect (eqb k 110) _ _ tt (load-sized k n))
+  effect-sized (Entry.Store k n r) q =
       cond-all SizedEffect (eqb k 7) _ _
       (with-sized SizedEffect (Refuse UndefinedValue) (valueAt vs r) _ (h r) tt (λ x hx. hx))
       (with-truth SizedEffect (Refuse UndefinedValue) (valueAt vs r) _ tt (λ t. cond-all SizedEffect (eqb k 8) _ _ tt tt))
-  effect-sized (Of.One k a) q = one-sized k (valueAt vs a) (h a)
-  effect-sized (Of.Two k a b) q = two-sized k (valueAt vs a) (valueAt vs b) (h a) (h b)
-  effect-sized (Of.Three k a b c) q = three-sized k (valueAt vs a) (valueAt vs b) (valueAt vs c) (h a) (h b) (h c)
-  effect-sized (Of.Four k a b c d) q =
+  effect-sized (Entry.One k a) q = one-sized k (valueAt vs a) (h a)
+  effect-sized (Entry.Two k a b) q = two-sized k (valueAt vs a) (valueAt vs b) (h a) (h b)
+  effect-sized (Entry.Three k a b c) q = three-sized k (valueAt vs a) (valueAt vs b) (valueAt vs c) (h a) (h b) (h c)
+  effect-sized (Entry.Four k a b c d) q =
       cond-all SizedEffect (eqb k 11) _ _ (address-effect (valueAt vs a) (valueAt vs b) (valueAt vs c) (valueAt vs d) (length cs))
       (insert-value-sized (valueAt vs a) (valueAt vs b) (valueAt vs c) (valueAt vs d) (h a) (h b) (h c) (h d))
 

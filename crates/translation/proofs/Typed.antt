@@ -9,19 +9,20 @@ use lib.ListN.{length, getD, length-append, List·getD-append}
 use lib.Seq.{getD-append-seam}
 use borrow.Author.Tests.{ltb-true, lt-ltb, eqb-true, eq-eqb, not-true}
 use Rattle.strip.specs.declared.reader.Entry.{Entry}
-use Rattle.strip.specs.declared.reader.Entry.the-variants as Of
+use Rattle.strip.specs.declared.reader.Entry.the-variants as Entry
 use Rattle.strip.specs.Format.{formatOf}
 use Rattle.strip.specs.Entry.{kindOf, refsOf, bodyOf}
 use Rattle.strip.specs.Shape.{all, isOpen, isClose, isEnd, makes, names, refsPass, refsOk}
 use Rattle.strip.proofs.Tests.{and-left, and-right}
 use Rattle.strip.proofs.Table.{bodyNumber}
-use Rattle.translation.specs.Code.{Code, ret, op, act, call, mark, ite, renamed, at, ats, Built, behind, build}
+use Rattle.strip.proofs.Run.{all-append}
+use Rattle.translation.specs.Code.{Code, ret, op, act, call, mark, ite, renamed, at, ats, Built, prefixed, build}
 
 -- ---- the check, on code alone
 
 -- the kind of the value that an entry makes, 0 for none
-abbrev pub resultOf : Entry → ℕ
-resultOf e = formatOf (kindOf e) .result
+abbrev pub resultKind : Entry → ℕ
+resultKind e = formatOf (kindOf e) .result
 
 -- neither open, close nor end
 abbrev pub inner : Entry → Bool
@@ -31,14 +32,14 @@ inner e = not (isOpen e) && (not (isClose e) && not (isEnd e))
 abbrev pub bodied : Entry → Bool
 bodied e = eqb (bodyNumber (formatOf (kindOf e) .body)) (bodyNumber (bodyOf e))
 
--- in order where its references name things of the kinds ks
+-- well-formed where its references name things of the kinds ks
 abbrev pub ordered : List ℕ → Entry → Bool
 ordered ks e = inner e && (bodied e && refsPass (names ks) (formatOf (kindOf e) .operands) (refsOf e))
 
 -- the kind of code's result, by the kinds of its arguments
 unfoldable pub kind : List ℕ → Code → ℕ
 kind ks (ret l) = at ks l
-kind ks (op e k) = kind (ks ++ (resultOf e ∷ [])) k
+kind ks (op e k) = kind (ks ++ (resultKind e ∷ [])) k
 kind ks (act e k) = kind ks k
 kind ks (call c ls k) = kind (ks ++ (kind (ats ks ls) c ∷ [])) k
 kind ks (mark s n k) = kind ks k
@@ -46,32 +47,32 @@ kind ks (ite b c d) = cond (eqb (kind ks c) (kind ks d)) (kind ks c) (cond b (ki
 
 unfoldable pub typed : List ℕ → Code → Bool
 typed ks (ret l) = ltb l (length ks)
-typed ks (op e k) = ordered ks e && (not (eqb (resultOf e) 0) && typed (ks ++ (resultOf e ∷ [])) k)
-typed ks (act e k) = ordered ks e && (eqb (resultOf e) 0 && typed ks k)
+typed ks (op e k) = ordered ks e && (not (eqb (resultKind e) 0) && typed (ks ++ (resultKind e ∷ [])) k)
+typed ks (act e k) = ordered ks e && (eqb (resultKind e) 0 && typed ks k)
 typed ks (call c ls k) = all (λ l. ltb l (length ks)) ls && (typed (ats ks ls) c && typed (ks ++ (kind (ats ks ls) c ∷ [])) k)
 typed ks (mark s n k) = typed ks k
 typed ks (ite b c d) = typed ks c && typed ks d
 
 -- Closed code names only its own levels, n at the start; an entry of an `op` makes a value, one of an `act` stores or notes.
 abbrev pub givesValue : Entry → Bool
-givesValue (Of.Bare k) = eqb k 2 || eqb k 3
-givesValue (Of.Word w) = true
-givesValue (Of.Cell k n) = not (eqb k 110)
-givesValue (Of.Store k n r) = false
-givesValue (Of.One k a) = not (eqb k 100)
-givesValue (Of.Two k a b) = true
-givesValue (Of.Three k a b c) = true
-givesValue (Of.Four k a b c d) = true
+givesValue (Entry.Bare k) = eqb k 2 || eqb k 3
+givesValue (Entry.Word w) = true
+givesValue (Entry.Cell k n) = not (eqb k 110)
+givesValue (Entry.Store k n r) = false
+givesValue (Entry.One k a) = not (eqb k 100)
+givesValue (Entry.Two k a b) = true
+givesValue (Entry.Three k a b c) = true
+givesValue (Entry.Four k a b c d) = true
 
 abbrev pub givesNone : Entry → Bool
-givesNone (Of.Bare k) = false
-givesNone (Of.Word w) = false
-givesNone (Of.Cell k n) = eqb k 110
-givesNone (Of.Store k n r) = true
-givesNone (Of.One k a) = false
-givesNone (Of.Two k a b) = false
-givesNone (Of.Three k a b c) = false
-givesNone (Of.Four k a b c d) = false
+givesNone (Entry.Bare k) = false
+givesNone (Entry.Word w) = false
+givesNone (Entry.Cell k n) = eqb k 110
+givesNone (Entry.Store k n r) = true
+givesNone (Entry.One k a) = false
+givesNone (Entry.Two k a b) = false
+givesNone (Entry.Three k a b c) = false
+givesNone (Entry.Four k a b c d) = false
 
 abbrev pub within : ℕ → List ℕ → Bool
 within n ls = all (λ l. ltb l n) ls
@@ -141,14 +142,14 @@ stand-ats before ks rs s (l ∷ ls) h =
 -- kind and body stay, and each reference is renamed
 renamed-is : (f : ℕ → ℕ) (e : Entry) → (kindOf (renamed f e) ≡ kindOf e) × (bodyOf (renamed f e) ≡ bodyOf e) × (refsOf (renamed f e) ≡ map f (refsOf e))
 unfolding kindOf bodyOf refsOf
-renamed-is f (Of.Bare k) = (refl, refl, refl)
-renamed-is f (Of.Word w) = (refl, refl, refl)
-renamed-is f (Of.Cell k n) = (refl, refl, refl)
-renamed-is f (Of.Store k n r) = (refl, refl, refl)
-renamed-is f (Of.One k a) = (refl, refl, refl)
-renamed-is f (Of.Two k a b) = (refl, refl, refl)
-renamed-is f (Of.Three k a b c) = (refl, refl, refl)
-renamed-is f (Of.Four k a b c d) = (refl, refl, refl)
+renamed-is f (Entry.Bare k) = (refl, refl, refl)
+renamed-is f (Entry.Word w) = (refl, refl, refl)
+renamed-is f (Entry.Cell k n) = (refl, refl, refl)
+renamed-is f (Entry.Store k n r) = (refl, refl, refl)
+renamed-is f (Entry.One k a) = (refl, refl, refl)
+renamed-is f (Entry.Two k a b) = (refl, refl, refl)
+renamed-is f (Entry.Three k a b c) = (refl, refl, refl)
+renamed-is f (Entry.Four k a b c d) = (refl, refl, refl)
 
 pass-map : (f : ℕ → ℕ) (t u : ℕ → ℕ → Bool) → ((k r : ℕ) → t k r ≡ true → u k (f r) ≡ true) → (ks rs : List ℕ) → refsPass t ks rs ≡ true → refsPass u ks (map f rs) ≡ true
 unfolding refsPass
@@ -174,13 +175,9 @@ refs-append before (e ∷ es) fs h i =
     let t = refsPass (names before) (formatOf (kindOf e) .operands) (refsOf e) in
     rw (and-left t _ h) (refs-append (before ++ makes e) es fs (and-right t _ h) (rw (append-assoc before (makes e) (made es)) i))
 
-pub all-append : {A : Type 0} (f : A → Bool) (xs ys : List A) → all f xs ≡ true → all f ys ≡ true → all f (xs ++ ys) ≡ true
-all-append f [] ys h i = i
-all-append f (x ∷ xs) ys h i = rw (and-left (f x) _ h) (all-append f xs ys (and-right (f x) _ h) i)
-
 -- ---- typed code
 
--- what it builds behind values of the kinds `before`
+-- what it builds after values of the kinds `before`
 pub record Sound (before ks : List ℕ) (c : Code) (b : Built) : Type 0 where
   pub inside : all inner (b .entries) ≡ true
   pub bodies : all bodied (b .entries) ≡ true
@@ -196,7 +193,7 @@ module _ (before ks rs : List ℕ) (s : Stand before ks rs) (e : Entry) (h : ord
   abbrev e′ : Entry
   e′ = renamed (at rs) e
 
-  front : (c k : Code) (ls : List ℕ) (b : Built) → kind ls k ≡ kind ks c → Sound (before ++ makes e′) ls k b → Sound before ks c (behind (e′ ∷ []) b)
+  front : (c k : Code) (ls : List ℕ) (b : Built) → kind ls k ≡ kind ks c → Sound (before ++ makes e′) ls k b → Sound before ks c (prefixed (e′ ∷ []) b)
   unfolding refsOk
   front c k ls b q x =
       let same = renamed-is (at rs) e in
@@ -211,16 +208,16 @@ module _ (before ks rs : List ℕ) (s : Stand before ks rs) (e : Entry) (h : ord
         result = rw (← q, ← append-assoc before (makes e′) (made (b .entries))) (x .result);
       }
 
-  makes-one : not (eqb (resultOf e) 0) ≡ true → makes e′ ≡ resultOf e ∷ []
+  makes-one : not (eqb (resultKind e) 0) ≡ true → makes e′ ≡ resultKind e ∷ []
   unfolding makes
-  makes-one n = rw (renamed-is (at rs) e .0, not-true (eqb (resultOf e) 0) n) refl
+  makes-one n = rw (renamed-is (at rs) e .0, not-true (eqb (resultKind e) 0) n) refl
 
-  makes-none : eqb (resultOf e) 0 ≡ true → makes e′ ≡ []
+  makes-none : eqb (resultKind e) 0 ≡ true → makes e′ ≡ []
   unfolding makes
   makes-none n = rw (renamed-is (at rs) e .0, n) refl
 
 -- code, and then what follows it
-joined : (before ks ls : List ℕ) (c k w : Code) (b d : Built) → kind ls k ≡ kind ks w → (args : List ℕ) → Sound before args c b → Sound (before ++ made (b .entries)) ls k d → Sound before ks w (behind (b .entries) d)
+joined : (before ks ls : List ℕ) (c k w : Code) (b d : Built) → kind ls k ≡ kind ks w → (args : List ℕ) → Sound before args c b → Sound (before ++ made (b .entries)) ls k d → Sound before ks w (prefixed (b .entries) d)
 joined before ks ls c k w b d q args x y =
     let m : before ++ made (b .entries ++ d .entries) ≡ (before ++ made (b .entries)) ++ made (d .entries) = rw (made-append (b .entries) (d .entries)) (sym (append-assoc before (made (b .entries)) (made (d .entries)))) in
     record {
@@ -245,7 +242,7 @@ kind-else x y = go (eqb x y) refl
     go true e = eqb-true x y e
     go false e = refl
 
-length-last : (l : List ℕ) (x : ℕ) → length (l ++ (x ∷ [])) ≡ suc (length l)
+pub length-last : {A : Type 0} (l : List A) (x : A) → length (l ++ (x ∷ [])) ≡ suc (length l)
 length-last l x = length-append l (x ∷ []) ∙ omega arith
 
 pub no-refs : (before : List ℕ) → refsOk before [] ≡ true
@@ -264,7 +261,7 @@ sound (ret l) before ks rs s h = record {
 sound (op e k) before ks rs s h =
     let o = and-left (ordered ks e) _ h in
     let t = and-right (ordered ks e) _ h in
-    let n = resultOf e in
+    let n = resultKind e in
     let m = makes-one before ks rs s e o (and-left (not (eqb n 0)) _ t) in
     let more = before ++ (n ∷ []) in
     let x = sound k more (ks ++ (n ∷ [])) (rs ++ (length before ∷ [])) (stand-last more ks rs n (length before) (stand-more before (n ∷ []) ks rs s) (names-last before n)) (and-right (not (eqb n 0)) _ t) in
@@ -272,8 +269,8 @@ sound (op e k) before ks rs s h =
 sound (act e k) before ks rs s h =
     let o = and-left (ordered ks e) _ h in
     let t = and-right (ordered ks e) _ h in
-    let m = makes-none before ks rs s e o (and-left (eqb (resultOf e) 0) _ t) in
-    front before ks rs s e o (act e k) k ks (build k rs (length before)) refl (rw (m, append-nil before) (sound k before ks rs s (and-right (eqb (resultOf e) 0) _ t)))
+    let m = makes-none before ks rs s e o (and-left (eqb (resultKind e) 0) _ t) in
+    front before ks rs s e o (act e k) k ks (build k rs (length before)) refl (rw (m, append-nil before) (sound k before ks rs s (and-right (eqb (resultKind e) 0) _ t)))
 sound (call c ls k) before ks rs s h =
     let o = and-left (all (λ l. ltb l (length ks)) ls) _ h in
     let t = and-right (all (λ l. ltb l (length ks)) ls) _ h in

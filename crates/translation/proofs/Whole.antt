@@ -9,7 +9,7 @@ use lib.ListN.{length, set as replace, getD, drop, length-append}
 use lib.Seq.{sets, sets-eq, paste, paste-suc, take-append-seam}
 use borrow.Author.Tests.{le-leb, lt-leb}
 use Rattle.strip.specs.declared.reader.Entry.{Entry}
-use Rattle.strip.specs.declared.reader.Entry.the-variants as Of
+use Rattle.strip.specs.declared.reader.Entry.the-variants as Entry
 use Rattle.strip.specs.Entry.{kindOf, refsOf, immediateOf, encode}
 use Rattle.strip.specs.Shape.{stripBytes}
 use Rattle.translation.specs.Insn.{Insn, bits, bit}
@@ -23,7 +23,7 @@ use Rattle.translation.specs.Whole.{writes}
 use Rattle.translation.specs.declared.writer.Pos.{Pos}
 use Rattle.translation.specs.declared.answer.Outcome.the-variants.{Written}
 use Rattle.translation.specs.declared.answer.Refusal.the-variants.{NoRoom}
-use Rattle.translation.proofs.Fits.{bytes-append, sets-append, roomy, next-bound, Mark, last, markOf, Fit, fits}
+use Rattle.translation.proofs.Fits.{bytes-append, sets-append, roomy, next-bound, Mark, last, raisedMark, Fit, fits}
 use Rattle.translation.proofs.Arms.{arm-sized, guard-sized}
 use Rattle.translation.proofs.Marked.{clear, none-used, raise-none, one-used}
 
@@ -66,11 +66,11 @@ wrote-next : (e : Entry) (b : Buffer) → wrote e b .next ≡ b .next
 unfolding wrote
 wrote-next e b = refl
 
-bare-size : (k : ℕ) → length (encode (Of.Bare k)) ≡ 1
+bare-size : (k : ℕ) → length (encode (Entry.Bare k)) ≡ 1
 unfolding encode kindOf immediateOf refsOf
 bare-size k = refl
 
-open-size : (a : ℕ) → length (encode (Of.One 100 a)) ≡ 3
+open-size : (a : ℕ) → length (encode (Entry.One 100 a)) ≡ 3
 unfolding encode kindOf immediateOf refsOf
 open-size a = refl
 
@@ -78,9 +78,9 @@ last-bytes : (es : List Entry) (e : Entry) → stripBytes (es ++ (e ∷ [])) ≡
 unfolding stripBytes
 last-bytes es e = bytes-append es (e ∷ []) ∙ ap (λ (x : List ℕ). stripBytes es ++ x) (append-nil (encode e))
 
-end-bytes : stripBytes (Of.Bare 255 ∷ []) ≡ encode (Of.Bare 255)
+end-bytes : stripBytes (Entry.Bare 255 ∷ []) ≡ encode (Entry.Bare 255)
 unfolding stripBytes
-end-bytes = append-nil (encode (Of.Bare 255))
+end-bytes = append-nil (encode (Entry.Bare 255))
 
 module _ (k : ℕ) (i : Insn) (l : List ℕ) where
   g : Built
@@ -92,96 +92,96 @@ module _ (k : ℕ) (i : Insn) (l : List ℕ) where
   at-start : Holds l (start l) []
   at-start = record { list = refl; at = refl }
 
-  -- the arm, behind bytes that were written
+  -- the arm, after bytes that were written
   arm-fit : (b : Buffer) (xs : List ℕ) → Holds l b xs → length xs ≤ 8 → b .next ≤ 2
-      → Fit b (emits (armOf k i) [] b) (build (armOf k i) [] (b .next) .entries) (build (armOf k i) [] (b .next) .result) (build (armOf k i) [] (b .next) .next) (last (armOf k i) (markOf b))
+      → Fit b (emits (armOf k i) [] b) (build (armOf k i) [] (b .next) .entries) (build (armOf k i) [] (b .next) .result) (build (armOf k i) [] (b .next) .next) (last (armOf k i) (raisedMark b))
   arm-fit b xs h small few =
       fits (armOf k i) [] b (omega (arith, h .at, roomy (armOf k i) [] (b .next), arm-sized k i .room))
       (omega (arith, next-bound (armOf k i) [] (b .next), arm-sized k i .bound))
 
-  never : Holding l (wrote (Of.Bare 255) (start l)) (encode (Of.Bare 255)) (λ m. m)
+  never : Holding l (wrote (Entry.Bare 255) (start l)) (encode (Entry.Bare 255)) (λ m. m)
   unfolding wrote
   never = record { holds = record { list = refl; at = omega (arith, bare-size 255) }; short = omega (arith, bare-size 255); mark = raise-none }
 
-  plain : Holding l (wrote (Of.Bare 255) (emits (armOf k i) [] (start l) .buffer)) (stripBytes (arm 0) ++ encode (Of.Bare 255)) (uses (armOf k i))
+  plain : Holding l (wrote (Entry.Bare 255) (emits (armOf k i) [] (start l) .buffer)) (stripBytes (arm 0) ++ encode (Entry.Bare 255)) (uses (armOf k i))
   unfolding arm
   plain =
       let f = arm-fit (start l) [] at-start (omega arith) (omega arith) in
       let xs = stripBytes (build (armOf k i) [] 0 .entries) in
       let z : length xs ≤ 245 = omega (arith, roomy (armOf k i) [] 0, arm-sized k i .room) in
       record {
-        holds = hold-entry l xs _ (Of.Bare 255) (hold-fit l [] (start l) _ _ _ _ _ at-start f) (omega (arith, bare-size 255));
-        short = omega (arith, length-append xs (encode (Of.Bare 255)), bare-size 255);
+        holds = hold-entry l xs _ (Entry.Bare 255) (hold-fit l [] (start l) _ _ _ _ _ at-start f) (omega (arith, bare-size 255));
+        short = omega (arith, length-append xs (encode (Entry.Bare 255)), bare-size 255);
         mark = λ m. rw (wrote-slot, wrote-need, f .slot, f .need) (sym (one-used (armOf k i) m (arm-sized k i .marks)));
       }
 
-  -- behind the guard and its open
-  opened : (m : Value) → Holds l (m .buffer) (stripBytes (g .entries)) → m .number ≡ g .result → m .buffer .next ≡ g .next → markOf (m .buffer) ≡ clear
-      → Holding l (wrote (Of.Bare 255) (wrote (Of.Bare 101) (emits (armOf k i) [] (wrote (Of.One 100 (m .number)) (m .buffer)) .buffer)))
-      ((((stripBytes (g .entries) ++ encode (Of.One 100 (g .result))) ++ stripBytes (arm (g .next))) ++ encode (Of.Bare 101)) ++ encode (Of.Bare 255)) (uses (armOf k i))
+  -- after the guard and its open
+  opened : (m : Value) → Holds l (m .buffer) (stripBytes (g .entries)) → m .number ≡ g .result → m .buffer .next ≡ g .next → raisedMark (m .buffer) ≡ clear
+      → Holding l (wrote (Entry.Bare 255) (wrote (Entry.Bare 101) (emits (armOf k i) [] (wrote (Entry.One 100 (m .number)) (m .buffer)) .buffer)))
+      ((((stripBytes (g .entries) ++ encode (Entry.One 100 (g .result))) ++ stripBytes (arm (g .next))) ++ encode (Entry.Bare 101)) ++ encode (Entry.Bare 255)) (uses (armOf k i))
   unfolding g arm
   opened m h er en em =
       let gr : length (stripBytes (g .entries)) ≤ 5 = omega (arith, roomy (p (guard i) (guardNot i)) [] 0, guard-sized (guard i) (guardNot i) .room) in
       let gb : g .next ≤ 2 = omega (arith, next-bound (p (guard i) (guardNot i)) [] 0, guard-sized (guard i) (guardNot i) .bound) in
-      let e = Of.One 100 (m .number) in
+      let e = Entry.One 100 (m .number) in
       let o = wrote e (m .buffer) in
       let x0 = stripBytes (g .entries) ++ encode e in
       let ho = hold-entry l (stripBytes (g .entries)) (m .buffer) e h (omega (arith, open-size (m .number))) in
       let on : o .next ≡ g .next = wrote-next e (m .buffer) ∙ en in
-      let om : markOf o ≡ clear = rw (wrote-slot, wrote-need) em in
+      let om : raisedMark o ≡ clear = rw (wrote-slot, wrote-need) em in
       let lo : length x0 ≤ 8 = omega (arith, length-append (stripBytes (g .entries)) (encode e), open-size (m .number)) in
       let f = arm-fit o x0 ho lo (omega arith) in
       let x1 = stripBytes (build (armOf k i) [] (o .next) .entries) in
       let z : length x1 ≤ 245 = omega (arith, roomy (armOf k i) [] (o .next), arm-sized k i .room) in
       let hf = hold-fit l x0 o _ _ _ _ _ ho f in
       let l1 : length (x0 ++ x1) ≤ 253 = omega (arith, length-append x0 x1) in
-      let hc = hold-entry l (x0 ++ x1) _ (Of.Bare 101) hf (omega (arith, bare-size 101)) in
-      let x2 = (x0 ++ x1) ++ encode (Of.Bare 101) in
-      let l2 : length x2 ≤ 254 = omega (arith, length-append (x0 ++ x1) (encode (Of.Bare 101)), bare-size 101) in
-      let he = hold-entry l x2 _ (Of.Bare 255) hc (omega (arith, bare-size 255)) in
+      let hc = hold-entry l (x0 ++ x1) _ (Entry.Bare 101) hf (omega (arith, bare-size 101)) in
+      let x2 = (x0 ++ x1) ++ encode (Entry.Bare 101) in
+      let l2 : length x2 ≤ 254 = omega (arith, length-append (x0 ++ x1) (encode (Entry.Bare 101)), bare-size 101) in
+      let he = hold-entry l x2 _ (Entry.Bare 255) hc (omega (arith, bare-size 255)) in
       let M = emits (armOf k i) [] o .buffer in
-      let sl = wrote-slot (Of.Bare 255) (wrote (Of.Bare 101) M) ∙ wrote-slot (Of.Bare 101) M ∙ f .slot ∙ ap (λ (w : Mark). last (armOf k i) w .slot) om in
-      let ne = wrote-need (Of.Bare 255) (wrote (Of.Bare 101) M) ∙ wrote-need (Of.Bare 101) M ∙ f .need ∙ ap (λ (w : Mark). last (armOf k i) w .need) om in
+      let sl = wrote-slot (Entry.Bare 255) (wrote (Entry.Bare 101) M) ∙ wrote-slot (Entry.Bare 101) M ∙ f .slot ∙ ap (λ (w : Mark). last (armOf k i) w .slot) om in
+      let ne = wrote-need (Entry.Bare 255) (wrote (Entry.Bare 101) M) ∙ wrote-need (Entry.Bare 101) M ∙ f .need ∙ ap (λ (w : Mark). last (armOf k i) w .need) om in
       rw (← er, ← on)
       (record {
         holds = he;
-        short = omega (arith, length-append x2 (encode (Of.Bare 255)), bare-size 255);
+        short = omega (arith, length-append x2 (encode (Entry.Bare 255)), bare-size 255);
         mark = λ m. rw (sl, ne) (sym (one-used (armOf k i) m (arm-sized k i .marks)));
       })
 
   inBlock : Holding l
-      (wrote (Of.Bare 255) (wrote (Of.Bare 101) (emits (armOf k i) [] (wrote (Of.One 100 (emits (p (guard i) (guardNot i)) [] (start l) .number)) (emits (p (guard i) (guardNot i)) [] (start l) .buffer)) .buffer)))
-      ((((stripBytes (g .entries) ++ encode (Of.One 100 (g .result))) ++ stripBytes (arm (g .next))) ++ encode (Of.Bare 101)) ++ encode (Of.Bare 255)) (uses (armOf k i))
+      (wrote (Entry.Bare 255) (wrote (Entry.Bare 101) (emits (armOf k i) [] (wrote (Entry.One 100 (emits (p (guard i) (guardNot i)) [] (start l) .number)) (emits (p (guard i) (guardNot i)) [] (start l) .buffer)) .buffer)))
+      ((((stripBytes (g .entries) ++ encode (Entry.One 100 (g .result))) ++ stripBytes (arm (g .next))) ++ encode (Entry.Bare 101)) ++ encode (Entry.Bare 255)) (uses (armOf k i))
   unfolding g
   inBlock =
       let c = p (guard i) (guardNot i) in
       let f = fits c [] (start l) (omega (arith, roomy c [] 0, guard-sized (guard i) (guardNot i) .room)) (omega (arith, next-bound c [] 0, guard-sized (guard i) (guardNot i) .bound)) in
-      let e : markOf (emits c [] (start l) .buffer) ≡ last c clear = rw (f .slot, f .need) in
+      let e : raisedMark (emits c [] (start l) .buffer) ≡ last c clear = rw (f .slot, f .need) in
       opened (emits c [] (start l)) (hold-fit l [] (start l) _ _ _ _ _ at-start f) (f .number) (f .next) (e ∙ none-used c [] clear (let z = guard-sized (guard i) (guardNot i) .marks in omega arith) .1)
 
-  block-bytes : stripBytes (block g (armOf k i) ++ (Of.Bare 255 ∷ [])) ≡ (((stripBytes (g .entries) ++ encode (Of.One 100 (g .result))) ++ stripBytes (arm (g .next))) ++ encode (Of.Bare 101)) ++ encode (Of.Bare 255)
+  block-bytes : stripBytes (block g (armOf k i) ++ (Entry.Bare 255 ∷ [])) ≡ (((stripBytes (g .entries) ++ encode (Entry.One 100 (g .result))) ++ stripBytes (arm (g .next))) ++ encode (Entry.Bare 101)) ++ encode (Entry.Bare 255)
   unfolding arm stripBytes
   block-bytes =
-      let o : Entry = Of.One 100 (g .result) in
+      let o : Entry = Entry.One 100 (g .result) in
       let es = build (armOf k i) [] (g .next) .entries in
-      last-bytes (block g (armOf k i)) (Of.Bare 255)
-      ∙ ap (λ (x : List ℕ). x ++ encode (Of.Bare 255))
-      (bytes-append (g .entries) (o ∷ (es ++ (Of.Bare 101 ∷ [])))
-      ∙ ap (λ (x : List ℕ). stripBytes (g .entries) ++ (encode o ++ x)) (last-bytes es (Of.Bare 101))
-      ∙ sym (append-assoc (stripBytes (g .entries)) (encode o) (stripBytes es ++ encode (Of.Bare 101)))
-      ∙ sym (append-assoc (stripBytes (g .entries) ++ encode o) (stripBytes es) (encode (Of.Bare 101))))
+      last-bytes (block g (armOf k i)) (Entry.Bare 255)
+      ∙ ap (λ (x : List ℕ). x ++ encode (Entry.Bare 255))
+      (bytes-append (g .entries) (o ∷ (es ++ (Entry.Bare 101 ∷ [])))
+      ∙ ap (λ (x : List ℕ). stripBytes (g .entries) ++ (encode o ++ x)) (last-bytes es (Entry.Bare 101))
+      ∙ sym (append-assoc (stripBytes (g .entries)) (encode o) (stripBytes es ++ encode (Entry.Bare 101)))
+      ∙ sym (append-assoc (stripBytes (g .entries) ++ encode o) (stripBytes es) (encode (Entry.Bare 101))))
 
   pub whole : Holding l (writes k i (start l)) (strip k i) (marked k i)
   unfolding writes strip entriesOf marked guarded g arm
   whole = go (eqb (guard i) 7) (guardNot i)
     where
       go : (x n : Bool) → Holding l
-          (cond x (cond n (wrote (Of.Bare 255) (start l)) (wrote (Of.Bare 255) (emits (armOf k i) [] (start l) .buffer)))
-          (wrote (Of.Bare 255) (wrote (Of.Bare 101) (emits (armOf k i) [] (wrote (Of.One 100 (emits (p (guard i) (guardNot i)) [] (start l) .number)) (emits (p (guard i) (guardNot i)) [] (start l) .buffer)) .buffer))))
-          (stripBytes (cond x (cond n [] (build (armOf k i) [] 0 .entries)) (block (build (p (guard i) (guardNot i)) [] 0) (armOf k i)) ++ (Of.Bare 255 ∷ [])))
+          (cond x (cond n (wrote (Entry.Bare 255) (start l)) (wrote (Entry.Bare 255) (emits (armOf k i) [] (start l) .buffer)))
+          (wrote (Entry.Bare 255) (wrote (Entry.Bare 101) (emits (armOf k i) [] (wrote (Entry.One 100 (emits (p (guard i) (guardNot i)) [] (start l) .number)) (emits (p (guard i) (guardNot i)) [] (start l) .buffer)) .buffer))))
+          (stripBytes (cond x (cond n [] (build (armOf k i) [] 0 .entries)) (block (build (p (guard i) (guardNot i)) [] 0) (armOf k i)) ++ (Entry.Bare 255 ∷ [])))
           (λ m. cond (x && n) m (uses (armOf k i) m))
       go true true = rw end-bytes never
-      go true false = rw (last-bytes (build (armOf k i) [] 0 .entries) (Of.Bare 255)) plain
+      go true false = rw (last-bytes (build (armOf k i) [] 0 .entries) (Entry.Bare 255)) plain
       go false n = rw block-bytes inBlock
 
 -- ---- the room
@@ -194,7 +194,7 @@ front-suc d s j h k =
 front : (xs l out : List ℕ) → length xs ≤ length l → paste out 0 (sets l 0 xs) (length xs) ≡ xs ++ drop (length xs) out
 front xs l out h = rw (sets-eq xs l 0 (omega arith), take-append-seam) (let e : 0 + length xs ≡ length xs = omega arith in rw e)
 
--- what the buffer and the position hold behind a whole strip
+-- what the buffer and the position hold after a whole strip
 pub record Done (k : ℕ) (i : Insn) (l l′ : List ℕ) (q : Pos) : Type 0 where
   pub list : l′ ≡ sets l 0 (strip k i)
   pub at : q .at ≡ length (strip k i)

@@ -13,12 +13,12 @@ use Rattle.strip.specs.Write as S
 use Rattle.strip.proofs.Write.{in-room}
 use Rattle.translation.specs.declared.writer.Pos.{Pos}
 use Rattle.translation.specs.declared.writer.Made.{Made}
-use Rattle.translation.specs.Emit.{wrote, made, view, seen, Makes, Writes}
+use Rattle.translation.specs.Emit.{wrote, made, view, viewMade, Makes, Writes}
 
 -- where strip's writer finds room and the position is handed on, the entry is made
 pub makes : {l′ : List ℕ} {m : Made} {r : Written} (l : List ℕ) (p : Pos) (e : Entry) → p .at + length (encode e) ≤ length l → S.Writes l (p .at) e l′ r
     → m ≡ record { pos = record { words = p .words; at = (p .at + length (encode e)) % 256; values = (p .values + 1) % 256; slot = p .slot }; value = p .values }
-    → Makes (view l p) (seen l′ m) e
+    → Makes (view l p) (viewMade l′ m) e
 unfolding made view
 makes l p e room w h = record { is = rw (in-room w room, h) }
 

@@ -97,8 +97,8 @@ pcombine pair i = fn0 do
 unfoldable pub prepared : Bool → Bool → Code
 prepared complement on = ite complement (inot on) (ineg on)
 
-unfoldable pub iaddOf : ℕ → (na nb x cc sat : Bool) → Code
-iaddOf d na nb x cc sat = fn2 λ a b. do
+unfoldable pub iaddWords : ℕ → (na nb x cc sat : Bool) → Code
+iaddWords d na nb x cc sat = fn2 λ a b. do
   a ← fn1! (prepared (x || not (Bool·beq na nb)) na) a
   b ← fn1! (prepared (x || not (Bool·beq na nb)) nb) b
   v ← fn2! (carrySum x (not (Bool·beq na nb)) cc) a b
@@ -110,14 +110,14 @@ unfoldable pub iadd : Insn → Code
 iadd i = fn0 do
   a ← fn0! (r (ra i))
   b ← fn0! (srcB i)
-  v ← fn2! (iaddOf (rd i) (bit i 49) (bit i 48) (bit i 43) (bit i 47) (bit i 50)) a b
+  v ← fn2! (iaddWords (rd i) (bit i 49) (bit i 48) (bit i 43) (bit i 47) (bit i 50)) a b
   pure v
 
 unfoldable pub iadd32i : Insn → Code
 iadd32i i = fn0 do
   a ← fn0! (r (ra i))
   b ← u (imm32 i)
-  v ← fn2! (iaddOf (rd i) (bit i 56) false (bit i 53) (bit i 52) (bit i 54)) a b
+  v ← fn2! (iaddWords (rd i) (bit i 56) false (bit i 53) (bit i 52) (bit i 54)) a b
   pure v
 
 -- which shift of the first sum: only the register form has one
@@ -129,8 +129,8 @@ iadd3Shift s =
     ite (eqb s 1) (fn2 λ v n. do v ← shiftRightLogical v n; pure v)
     (ite (eqb s 2) (fn2 λ v n. do v ← shiftLeftLogical v n; pure v) (fn2 λ v n. pure v))
 
-unfoldable pub iadd3Of : Insn → Code
-iadd3Of i = fn3 λ a b c. do
+unfoldable pub iadd3Words : Insn → Code
+iadd3Words i = fn3 λ a b c. do
   a ← fn1! (ineg (bit i 51)) a
   b ← fn1! (ineg (bit i 50)) b
   c ← fn1! (ineg (bit i 49)) c
@@ -151,12 +151,12 @@ iadd3Fetch i =
       a ← fn1! (halfSelect (bits i 35 2)) a
       b ← fn1! (halfSelect (bits i 33 2)) b
       c ← fn1! (halfSelect (bits i 31 2)) c
-      v ← fn3! (iadd3Of i) a b c
+      v ← fn3! (iadd3Words i) a b c
       pure v)
     (fn1 λ a. do
       b ← fn0! (srcB i)
       c ← fn0! (r (rc i))
-      v ← fn3! (iadd3Of i) a b c
+      v ← fn3! (iadd3Words i) a b c
       pure v)
 
 unfoldable pub iadd3 : Insn → Code
@@ -233,8 +233,8 @@ xmadProduct i = fn2 λ a b. do
   v ← fn1! (xmadShift (xmadPsl i)) v
   pure v
 
-unfoldable pub xmadOf : Insn → Code
-xmadOf i = fn3 λ a b c. do
+unfoldable pub xmadWords : Insn → Code
+xmadWords i = fn3 λ a b c. do
   prod ← fn2! (xmadProduct i) a b
   sixteen ← u 16
   c ← fn3! (xmadAlter (xmadMode i)) c b sixteen
@@ -244,7 +244,7 @@ xmadOf i = fn3 λ a b c. do
   pure v
 
 unfoldable pub xmadBc : Insn → Code
-xmadBc i = srcBc i (xmadSwaps i) (xmadOf i)
+xmadBc i = srcBc i (xmadSwaps i) (xmadWords i)
 
 unfoldable pub xmadFetch : Insn → Code
 xmadFetch i =
@@ -252,7 +252,7 @@ xmadFetch i =
     (fn1 λ a. do
       b ← u (bits i 20 16)
       c ← fn0! (r (rc i))
-      v ← fn3! (xmadOf i) a b c
+      v ← fn3! (xmadWords i) a b c
       pure v)
     (xmadBc i)
 
@@ -264,25 +264,25 @@ xmad i = fn0 do
 
 -- ---- minimum, comparison
 
-unfoldable pub minOf : Bool → Code
-minOf signed = ite signed (fn2 λ a b. do v ← sMin a b; pure v) (fn2 λ a b. do v ← uMin a b; pure v)
+unfoldable pub minimum : Bool → Code
+minimum signed = ite signed (fn2 λ a b. do v ← sMin a b; pure v) (fn2 λ a b. do v ← uMin a b; pure v)
 
-unfoldable pub maxOf : Bool → Code
-maxOf signed = ite signed (fn2 λ a b. do v ← sMax a b; pure v) (fn2 λ a b. do v ← uMax a b; pure v)
+unfoldable pub maximum : Bool → Code
+maximum signed = ite signed (fn2 λ a b. do v ← sMax a b; pure v) (fn2 λ a b. do v ← uMax a b; pure v)
 
 unfoldable pub imnmx : Insn → Code
 imnmx i = fn0 do
   a ← fn0! (r (ra i))
   b ← fn0! (srcB i)
   c ← fn0! (p (bits i 39 3) (bit i 42))
-  lo ← fn2! (minOf (bit i 48)) a b
-  hi ← fn2! (maxOf (bit i 48)) a b
+  lo ← fn2! (minimum (bit i 48)) a b
+  hi ← fn2! (maximum (bit i 48)) a b
   v ← select c lo hi
   v ← fn1! (set (rd i)) v
   pure v
 
-unfoldable pub icmpOf : Insn → Code
-icmpOf i = fn3 λ a b c. do
+unfoldable pub icmpWords : Insn → Code
+icmpWords i = fn3 λ a b c. do
   zero! ← u 0
   t ← fn2! (intCmp (bits i 49 3) (bit i 48)) c zero!
   v ← select t a b
@@ -294,7 +294,7 @@ unfoldable pub icmpSwaps : Insn → Bool
 icmpSwaps i = eqb (i .value) 5998794703657500672
 
 unfoldable pub icmpBc : Insn → Code
-icmpBc i = srcBc i (icmpSwaps i) (icmpOf i)
+icmpBc i = srcBc i (icmpSwaps i) (icmpWords i)
 
 unfoldable pub icmp : Insn → Code
 icmp i = fn0 do
@@ -383,22 +383,14 @@ shr i = fn0 do
   v ← fn1! (set (rd i)) v
   pure v
 
-unfoldable pub insertField : Code
-insertField = fn4 λ c a pos len. do
-  v ← bitFieldInsert c a pos len
-  pure v
-
-unfoldable pub extractField : Bool → Code
-extractField signed = fn4 λ c a pos len. do
-  v ← fn3! (extract signed) a pos len
-  pure v
-
+-- the field of a, or c with a put into it
 unfoldable pub useField : Bool → Bool → Code
-useField insert signed = ite insert insertField (extractField signed)
+useField insert signed =
+    ite insert (fn4 λ c a pos len. do v ← bitFieldInsert c a pos len; pure v) (fn4 λ c a pos len. do v ← fn3! (extract signed) a pos len; pure v)
 
 -- position and length out of b, then the field of a (bfe) or a put into that of c (bfi)
-unfoldable pub fieldOf : Bool → Bool → Code
-fieldOf insert signed = fn3 λ c a b. do
+unfoldable pub fieldAtB : Bool → Bool → Code
+fieldAtB insert signed = fn3 λ c a b. do
   ff ← u 255
   pos ← bitwiseAnd b ff
   eight ← u 8
@@ -416,13 +408,13 @@ bfe i = fn0 do
   a ← fn0! (r (ra i))
   b ← fn0! (srcB i)
   a ← fn1! (reverseIf (bit i 40)) a
-  v ← fn3! (fieldOf false (bit i 48)) a a b
+  v ← fn3! (fieldAtB false (bit i 48)) a a b
   v ← fn1! (set (rd i)) v
   pure v
 
-unfoldable pub bfiOf : Insn → Code
-bfiOf i = fn3 λ a b c. do
-  v ← fn3! (fieldOf true false) c a b
+unfoldable pub bfiWords : Insn → Code
+bfiWords i = fn3 λ a b c. do
+  v ← fn3! (fieldAtB true false) c a b
   v ← fn1! (set (rd i)) v
   pure v
 
@@ -431,7 +423,7 @@ unfoldable pub bfiSwaps : Insn → Bool
 bfiSwaps i = eqb (i .value) 6048334299558576128
 
 unfoldable pub bfiBc : Insn → Code
-bfiBc i = srcBc i (bfiSwaps i) (bfiOf i)
+bfiBc i = srcBc i (bfiSwaps i) (bfiWords i)
 
 unfoldable pub bfi : Insn → Code
 bfi i = fn0 do
@@ -471,7 +463,7 @@ unfoldable pub vmnmxFirst : Bool → Code
 vmnmxFirst max = ite max (fn2 λ a b. do v ← uMax a b; pure v) (fn2 λ a b. do v ← sMin a b; pure v)
 
 unfoldable pub minOrMax : Bool → Bool → Code
-minOrMax max signed = ite max (maxOf signed) (minOf signed)
+minOrMax max signed = ite max (maximum signed) (minimum signed)
 
 -- of a, b and zero
 unfoldable pub vmnmxWord : (sa sb max : Bool) → Code
@@ -516,10 +508,10 @@ vmnmxMerge mode dformat =
     (ite (eqb mode 2) (vmnmxInsert 0 8)
     (ite (eqb mode 3) (vmnmxInsert 16 8)
     (ite (eqb mode 4) (fn2 λ v c. do v ← iAdd v c; pure v)
-    (ite (eqb mode 5) (minOf dformat) (ite (eqb mode 6) (maxOf dformat) (fn2 λ v c. pure v)))))))
+    (ite (eqb mode 5) (minimum dformat) (ite (eqb mode 6) (maximum dformat) (fn2 λ v c. pure v)))))))
 
-unfoldable pub vmnmxOf : Insn → Code
-vmnmxOf i = fn3 λ a b c. do
+unfoldable pub vmnmxWords : Insn → Code
+vmnmxWords i = fn3 λ a b c. do
   zero! ← u 0
   v ← fn3! (vmnmxWord (bit i 48) (bit i 49) (bit i 56)) a b zero!
   v ← fn2! (vmnmxSaturate (bit i 55) (bit i 54) (vmnmxSigned (bit i 48) (bit i 49) (bit i 56))) v zero!
@@ -533,7 +525,7 @@ vmnmx i = fn0 do
   a ← fn1! (videoOperand (bits i 36 3) (bit i 48)) a
   b ← fn0! (vmnmxB i)
   c ← fn0! (r (rc i))
-  v ← fn3! (vmnmxOf i) a b c
+  v ← fn3! (vmnmxWords i) a b c
   pure v
 
 -- ---- conversion, counts
@@ -597,15 +589,15 @@ popc i = fn0 do
 -- ---- predicates and flags in a register
 
 -- the mask of r2p and p2r; without an immediate, seven bits and a note
-unfoldable pub maskOf : Insn → ℕ
-maskOf i = cond (eqb (i .form) 2) (simm20 i) 127
+unfoldable pub predicateMask : Insn → ℕ
+predicateMask i = cond (eqb (i .form) 2) (simm20 i) 127
 
 unfoldable pub noteUnless : Bool → ℕ → Code
 noteUnless on n = ite on same (fn1 λ v. do unsupported n; pure v)
 
 -- cell k is asked for: one of seven predicates, or of four flags
 unfoldable pub asked : Insn → ℕ → Bool
-asked i k = tableBit (maskOf i) k && (ltb k 4 || not (bit i 40))
+asked i k = tableBit (predicateMask i) k && (ltb k 4 || not (bit i 40))
 
 -- the bit of cell k in the register
 unfoldable pub cellBit : Insn → ℕ → ℕ
@@ -669,7 +661,7 @@ p2rTurns i = fn1 λ v. do
   pure v
 
 unfoldable pub p2rKeep : Insn → ℕ
-p2rKeep i = 4294967295 - maskOf i % 256 * 2 ^ (bits i 41 2 * 8)
+p2rKeep i = 4294967295 - predicateMask i % 256 * 2 ^ (bits i 41 2 * 8)
 
 unfoldable pub p2r : Insn → Code
 p2r i = fn0 do
@@ -725,8 +717,8 @@ shfWord left =
 unfoldable pub shfPlain : Insn → Bool
 shfPlain i = eqb (bits i 37 2) 0 && eqb (bits i 48 2) 0
 
-unfoldable pub shfOf : Insn → Code
-shfOf i = fn3 λ low n high. do
+unfoldable pub shfWords : Insn → Code
+shfWords i = fn3 λ low n high. do
   c31 ← u 31
   c32 ← u 32
   amount ← fn3! (shfAmount (bit i 50)) n c31 c32
@@ -740,7 +732,7 @@ shf i = fn0 do
   low ← fn0! (r (ra i))
   n ← fn0! (srcB i)
   high ← fn0! (r (rc i))
-  v ← fn3! (shfOf i) low n high
+  v ← fn3! (shfWords i) low n high
   pure v
 
 -- the high form by the opcode's value: 0x5bd8 << 48 with a register, 0x1800 << 48 with a constant
@@ -792,42 +784,9 @@ lea i = fn0 do
   v ← fn1! (set (rd i)) v
   pure v
 
--- ---- all of them, by kind, in four groups
+-- ---- all of them, by kind
 
--- vmnmx, conversion, counts, predicates and flags in a register, two words at once
-unfoldable pub wordArm : ℕ → Insn → Code
-wordArm k i =
-    ite (eqb k 23) (vmnmx i)
-    (ite (eqb k 24) (i2i i)
-    (ite (eqb k 25) (flo i)
-    (ite (eqb k 26) (popc i)
-    (ite (eqb k 27) (r2p i)
-    (ite (eqb k 28) (p2r i)
-    (ite (eqb k 29) (shf i) (lea i)))))))
-
--- logic, shifts and fields, and the group above
-unfoldable pub bitArm : ℕ → Insn → Code
-bitArm k i =
-    ite (eqb k 16) (lop i)
-    (ite (eqb k 17) (lop32i i)
-    (ite (eqb k 18) (lop3Arm i)
-    (ite (eqb k 19) (shl i)
-    (ite (eqb k 20) (shr i)
-    (ite (eqb k 21) (bfe i)
-    (ite (eqb k 22) (bfi i) (wordArm k i)))))))
-
--- sums, minimum, comparison, and the groups above
-unfoldable pub sumArm : ℕ → Insn → Code
-sumArm k i =
-    ite (eqb k 9) (iadd i)
-    (ite (eqb k 10) (iadd32i i)
-    (ite (eqb k 11) (iadd3 i)
-    (ite (eqb k 12) (iscadd i)
-    (ite (eqb k 13) (xmad i)
-    (ite (eqb k 14) (imnmx i)
-    (ite (eqb k 15) (icmp i) (bitArm k i)))))))
-
--- moves, predicates, and the groups above: all kinds
+-- the arm of a kind: the Rust's `op`
 unfoldable pub armOf : ℕ → Insn → Code
 armOf k i =
     ite (eqb k 1) (mov i)
@@ -837,4 +796,25 @@ armOf k i =
     (ite (eqb k 5) (icompare true i)
     (ite (eqb k 6) (icompare false i)
     (ite (eqb k 7) (pcombine true i)
-    (ite (eqb k 8) (pcombine false i) (sumArm k i))))))))
+    (ite (eqb k 8) (pcombine false i)
+    (ite (eqb k 9) (iadd i)
+    (ite (eqb k 10) (iadd32i i)
+    (ite (eqb k 11) (iadd3 i)
+    (ite (eqb k 12) (iscadd i)
+    (ite (eqb k 13) (xmad i)
+    (ite (eqb k 14) (imnmx i)
+    (ite (eqb k 15) (icmp i)
+    (ite (eqb k 16) (lop i)
+    (ite (eqb k 17) (lop32i i)
+    (ite (eqb k 18) (lop3Arm i)
+    (ite (eqb k 19) (shl i)
+    (ite (eqb k 20) (shr i)
+    (ite (eqb k 21) (bfe i)
+    (ite (eqb k 22) (bfi i)
+    (ite (eqb k 23) (vmnmx i)
+    (ite (eqb k 24) (i2i i)
+    (ite (eqb k 25) (flo i)
+    (ite (eqb k 26) (popc i)
+    (ite (eqb k 27) (r2p i)
+    (ite (eqb k 28) (p2r i)
+    (ite (eqb k 29) (shf i) (lea i)))))))))))))))))))))))))))))

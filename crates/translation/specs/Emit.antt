@@ -7,7 +7,7 @@ use Prim.Native.Nat.{ℕ, _+_, _*_, _%_}
 use lib.ListN.{length}
 use lib.Seq.{sets}
 use Rattle.strip.specs.declared.reader.Entry.{Entry}
-use Rattle.strip.specs.declared.reader.Entry.the-variants as Of
+use Rattle.strip.specs.declared.reader.Entry.the-variants as Entry
 use Rattle.strip.specs.Entry.{encode}
 use Rattle.translation.specs.declared.writer.Pos.{Pos}
 use Rattle.translation.specs.declared.writer.Made.{Made}
@@ -31,7 +31,7 @@ pub record Value : Type 0 where
   pub buffer : Buffer
   pub number : ℕ
 
--- behind an entry that makes no value, and behind one that makes the next
+-- after an entry that makes no value, and after one that makes the next
 unfoldable pub wrote : Entry → Buffer → Buffer
 wrote e b = record { list = sets (b .list) (b .at) (encode e); at = (b .at + length (encode e)) % 256; next = b .next; slot = b .slot; need = b .need }
 
@@ -45,7 +45,7 @@ made e b =
 unfoldable pub raised : ℕ → ℕ → Buffer → Buffer
 raised s n b = record { list = b .list; at = b .at; next = b .next; slot = s; need = n }
 
--- behind code, of the numbers of its arguments
+-- after code, of the numbers of its arguments
 unfoldable pub emits : Code → List ℕ → Buffer → Value
 emits (ret l) rs b = record { buffer = b; number = level rs l }
 emits (op e k) rs b = emits k (rs ++ (made (renamed (level rs) e) b .number ∷ [])) (made (renamed (level rs) e) b .buffer)
@@ -61,8 +61,8 @@ emits (ite false c d) rs b = emits d rs b
 unfoldable pub view : List ℕ → Pos → Buffer
 view l p = record { list = l; at = p .at; next = p .values; slot = p .slot; need = p .words * 4 }
 
-abbrev pub seen : List ℕ → Made → Value
-seen l m = record { buffer = view l (m .pos); number = m .value }
+abbrev pub viewMade : List ℕ → Made → Value
+viewMade l m = record { buffer = view l (m .pos); number = m .value }
 
 -- an entry that makes a value, one that makes none, a mark
 pub record Makes (b : Buffer) (m : Value) (e : Entry) : Type 0 where
@@ -78,14 +78,14 @@ pub record Raises (b b′ : Buffer) (s n : ℕ) : Type 0 where
 pub record Does (b : Buffer) (m : Value) (c : Code) (rs : List ℕ) : Type 0 where
   pub is : m ≡ emits c rs b
 
--- from b to b′ the words x and y are fetched: code k behind it, of a, x and y, is what `srcBc` has follow
+-- from b to b′ the words x and y are fetched: code k after it, of a, x and y, is what `srcBc` has follow
 pub record Fetches (b b′ : Buffer) (i : Insn) (swap : Bool) (x y : ℕ) : Type 0 where
   pub is : (k : Code) (a : ℕ) (n : Value) → Does b′ n k (a ∷ x ∷ y ∷ []) → Does b n (srcBc i swap k) (a ∷ [])
 
 -- a carry: whether one is given, and the numbers that are
-unfoldable pub given : Carry → Bool
-given None = false
-given (Word n) = true
+unfoldable pub isGiven : Carry → Bool
+isGiven None = false
+isGiven (Word n) = true
 
 unfoldable pub words : Carry → List ℕ
 words None = []
@@ -109,9 +109,9 @@ summed l s = record { buffer = view l (s .pos); number = s .value; carry = s .ca
 unfoldable pub carryAdded : Carry → (v c : ℕ) → Buffer → Summed
 carryAdded None v c b = record { buffer = b; number = v; carry = c }
 carryAdded (Word n) v c b =
-    let v2 = made (Of.Two 40 v n) b in let c2 = made (Of.Two 62 (v2 .number) v) (v2 .buffer) in let o = made (Of.Two 82 c (c2 .number)) (c2 .buffer) in
+    let v2 = made (Entry.Two 40 v n) b in let c2 = made (Entry.Two 62 (v2 .number) v) (v2 .buffer) in let o = made (Entry.Two 82 c (c2 .number)) (c2 .buffer) in
     record { buffer = o .buffer; number = v2 .number; carry = o .number }
 
 -- from b to b′ the carry in of a sum is fetched: `add_with_flags` with it, of a and d, is what `carrySum` has follow
 pub record Carries (b b′ : Buffer) (x one : Bool) (c : Carry) : Type 0 where
-  pub is : (cc : Bool) (a d : ℕ) (n : Value) → Does b′ n (addWithFlags (given c) cc) (a ∷ d ∷ words c) → Does b n (carrySum x one cc) (a ∷ d ∷ [])
+  pub is : (cc : Bool) (a d : ℕ) (n : Value) → Does b′ n (addWithFlags (isGiven c) cc) (a ∷ d ∷ words c) → Does b n (carrySum x one cc) (a ∷ d ∷ [])

@@ -102,8 +102,8 @@ signedOverflow = fn3 λ a b v. do
   pure o
 
 -- `set_cc` of the word v: of the false that it loads, which words the flags C and O are stored from
-abbrev pub setCcOf : ℕ → (c o : ℕ → ℕ) → Mk
-setCcOf v c o = do
+abbrev pub setCcFrom : ℕ → (c o : ℕ → ℕ) → Mk
+setCcFrom v c o = do
   zero! ← u 0
   z ← iEqual v zero!
   s ← sLessThan v zero!
@@ -116,10 +116,10 @@ setCcOf v c o = do
 
 -- whether a carry and an overflow are given; where one is not, the flag is false
 unfoldable pub setCc : (carry overflow : Bool) → Code
-setCc true true = fn3 λ v c o. setCcOf v (λ f. c) (λ f. o)
-setCc true false = fn2 λ v c. setCcOf v (λ f. c) (λ f. f)
-setCc false true = fn2 λ v o. setCcOf v (λ f. f) (λ f. o)
-setCc false false = fn1 λ v. setCcOf v (λ f. f) (λ f. f)
+setCc true true = fn3 λ v c o. setCcFrom v (λ f. c) (λ f. o)
+setCc true false = fn2 λ v c. setCcFrom v (λ f. c) (λ f. f)
+setCc false true = fn2 λ v o. setCcFrom v (λ f. f) (λ f. o)
+setCc false false = fn1 λ v. setCcFrom v (λ f. f) (λ f. f)
 
 -- where it is asked for, with neither
 unfoldable pub setCcIf : Bool → Code
@@ -251,7 +251,7 @@ shifted left signed =
     ite left (fn2 λ a n. do v ← shiftLeftLogical a n; pure v)
     (ite signed (fn2 λ a n. do v ← shiftRightArithmetic a n; pure v) (fn2 λ a n. do v ← shiftRightLogical a n; pure v))
 
--- what is left behind a count of 32 or more
+-- what is left of a shift by 32 or more
 unfoldable pub shiftFill : Bool → Code
 shiftFill sign =
     ite sign

@@ -4,7 +4,7 @@ use mathlib.Core.Bool.{Bool}
 use mathlib.Core.List.{List, [], _∷_}
 use Prim.Native.Nat.{ℕ, suc}
 use Rattle.strip.specs.declared.reader.Entry.{Entry}
-use Rattle.strip.specs.declared.reader.Entry.the-variants as Of
+use Rattle.strip.specs.declared.reader.Entry.the-variants as Entry
 use Rattle.translation.specs.Code.{Code, ret, op, act, call, mark, ite}
 
 -- code that begins at a level
@@ -74,159 +74,159 @@ same = fn1 λ v. pure v
 -- ---- entries
 
 abbrev pub u : ℕ → Line
-u w = val (Of.Word w)
+u w = val (Entry.Word w)
 
 abbrev pub btrue : Line
-btrue = val (Of.Bare 2)
+btrue = val (Entry.Bare 2)
 
 abbrev pub constantFalse : Line
-constantFalse = val (Of.Bare 3)
+constantFalse = val (Entry.Bare 3)
 
 abbrev pub loadReg : ℕ → Line
-loadReg n = val (Of.Cell 4 n)
+loadReg n = val (Entry.Cell 4 n)
 
 abbrev pub loadPred : ℕ → Line
-loadPred n = val (Of.Cell 5 n)
+loadPred n = val (Entry.Cell 5 n)
 
 -- the Rust's cc_flag
 abbrev pub ccFlag : ℕ → Line
-ccFlag n = val (Of.Cell 6 n)
+ccFlag n = val (Entry.Cell 6 n)
 
 abbrev pub storeReg : ℕ → ℕ → Line
-storeReg n v = eff (Of.Store 7 n v)
+storeReg n v = eff (Entry.Store 7 n v)
 
 abbrev pub storePred : ℕ → ℕ → Line
-storePred n v = eff (Of.Store 8 n v)
+storePred n v = eff (Entry.Store 8 n v)
 
 abbrev pub storeFlag : ℕ → ℕ → Line
-storeFlag n v = eff (Of.Store 9 n v)
+storeFlag n v = eff (Entry.Store 9 n v)
 
 abbrev pub cbufVar : ℕ → Line
-cbufVar s = val (Of.Cell 10 s)
+cbufVar s = val (Entry.Cell 10 s)
 
 abbrev pub accessChain : ℕ → ℕ → ℕ → ℕ → Line
-accessChain s z v c = val (Of.Four 11 s z v c)
+accessChain s z v c = val (Entry.Four 11 s z v c)
 
 abbrev pub loadAt : ℕ → Line
-loadAt a = val (Of.One 12 a)
+loadAt a = val (Entry.One 12 a)
 
 -- the Rust pushes a text onto `unsupported`
 abbrev pub unsupported : ℕ → Line
-unsupported n = eff (Of.Cell 110 n)
+unsupported n = eff (Entry.Cell 110 n)
 
 abbrev pub bitwiseNot : ℕ → Line
-bitwiseNot a = val (Of.One 20 a)
+bitwiseNot a = val (Entry.One 20 a)
 
 abbrev pub bitReverse : ℕ → Line
-bitReverse a = val (Of.One 21 a)
+bitReverse a = val (Entry.One 21 a)
 
 abbrev pub bitCount : ℕ → Line
-bitCount a = val (Of.One 22 a)
+bitCount a = val (Entry.One 22 a)
 
 abbrev pub castI : ℕ → Line
-castI a = val (Of.One 23 a)
+castI a = val (Entry.One 23 a)
 
 abbrev pub castU : ℕ → Line
-castU a = val (Of.One 24 a)
+castU a = val (Entry.One 24 a)
 
 abbrev pub sAbs : ℕ → Line
-sAbs a = val (Of.One 25 a)
+sAbs a = val (Entry.One 25 a)
 
 abbrev pub findSMsb : ℕ → Line
-findSMsb a = val (Of.One 26 a)
+findSMsb a = val (Entry.One 26 a)
 
 abbrev pub findUMsb : ℕ → Line
-findUMsb a = val (Of.One 27 a)
+findUMsb a = val (Entry.One 27 a)
 
 abbrev pub logicalNot : ℕ → Line
-logicalNot a = val (Of.One 80 a)
+logicalNot a = val (Entry.One 80 a)
 
 abbrev pub iAdd : ℕ → ℕ → Line
-iAdd a b = val (Of.Two 40 a b)
+iAdd a b = val (Entry.Two 40 a b)
 
 abbrev pub iSub : ℕ → ℕ → Line
-iSub a b = val (Of.Two 41 a b)
+iSub a b = val (Entry.Two 41 a b)
 
 abbrev pub iMul : ℕ → ℕ → Line
-iMul a b = val (Of.Two 42 a b)
+iMul a b = val (Entry.Two 42 a b)
 
 abbrev pub shiftLeftLogical : ℕ → ℕ → Line
-shiftLeftLogical a b = val (Of.Two 43 a b)
+shiftLeftLogical a b = val (Entry.Two 43 a b)
 
 abbrev pub shiftRightLogical : ℕ → ℕ → Line
-shiftRightLogical a b = val (Of.Two 44 a b)
+shiftRightLogical a b = val (Entry.Two 44 a b)
 
 abbrev pub shiftRightArithmetic : ℕ → ℕ → Line
-shiftRightArithmetic a b = val (Of.Two 45 a b)
+shiftRightArithmetic a b = val (Entry.Two 45 a b)
 
 abbrev pub bitwiseAnd : ℕ → ℕ → Line
-bitwiseAnd a b = val (Of.Two 46 a b)
+bitwiseAnd a b = val (Entry.Two 46 a b)
 
 abbrev pub bitwiseOr : ℕ → ℕ → Line
-bitwiseOr a b = val (Of.Two 47 a b)
+bitwiseOr a b = val (Entry.Two 47 a b)
 
 abbrev pub bitwiseXor : ℕ → ℕ → Line
-bitwiseXor a b = val (Of.Two 48 a b)
+bitwiseXor a b = val (Entry.Two 48 a b)
 
 abbrev pub uMin : ℕ → ℕ → Line
-uMin a b = val (Of.Two 49 a b)
+uMin a b = val (Entry.Two 49 a b)
 
 abbrev pub sMin : ℕ → ℕ → Line
-sMin a b = val (Of.Two 50 a b)
+sMin a b = val (Entry.Two 50 a b)
 
 abbrev pub uMax : ℕ → ℕ → Line
-uMax a b = val (Of.Two 51 a b)
+uMax a b = val (Entry.Two 51 a b)
 
 abbrev pub sMax : ℕ → ℕ → Line
-sMax a b = val (Of.Two 52 a b)
+sMax a b = val (Entry.Two 52 a b)
 
 abbrev pub iEqual : ℕ → ℕ → Line
-iEqual a b = val (Of.Two 60 a b)
+iEqual a b = val (Entry.Two 60 a b)
 
 abbrev pub iNotEqual : ℕ → ℕ → Line
-iNotEqual a b = val (Of.Two 61 a b)
+iNotEqual a b = val (Entry.Two 61 a b)
 
 abbrev pub uLessThan : ℕ → ℕ → Line
-uLessThan a b = val (Of.Two 62 a b)
+uLessThan a b = val (Entry.Two 62 a b)
 
 abbrev pub uLessThanEqual : ℕ → ℕ → Line
-uLessThanEqual a b = val (Of.Two 63 a b)
+uLessThanEqual a b = val (Entry.Two 63 a b)
 
 abbrev pub uGreaterThan : ℕ → ℕ → Line
-uGreaterThan a b = val (Of.Two 64 a b)
+uGreaterThan a b = val (Entry.Two 64 a b)
 
 abbrev pub uGreaterThanEqual : ℕ → ℕ → Line
-uGreaterThanEqual a b = val (Of.Two 65 a b)
+uGreaterThanEqual a b = val (Entry.Two 65 a b)
 
 abbrev pub sLessThan : ℕ → ℕ → Line
-sLessThan a b = val (Of.Two 66 a b)
+sLessThan a b = val (Entry.Two 66 a b)
 
 abbrev pub sLessThanEqual : ℕ → ℕ → Line
-sLessThanEqual a b = val (Of.Two 67 a b)
+sLessThanEqual a b = val (Entry.Two 67 a b)
 
 abbrev pub sGreaterThan : ℕ → ℕ → Line
-sGreaterThan a b = val (Of.Two 68 a b)
+sGreaterThan a b = val (Entry.Two 68 a b)
 
 abbrev pub sGreaterThanEqual : ℕ → ℕ → Line
-sGreaterThanEqual a b = val (Of.Two 69 a b)
+sGreaterThanEqual a b = val (Entry.Two 69 a b)
 
 abbrev pub logicalAnd : ℕ → ℕ → Line
-logicalAnd a b = val (Of.Two 81 a b)
+logicalAnd a b = val (Entry.Two 81 a b)
 
 abbrev pub logicalOr : ℕ → ℕ → Line
-logicalOr a b = val (Of.Two 82 a b)
+logicalOr a b = val (Entry.Two 82 a b)
 
 abbrev pub logicalNotEqual : ℕ → ℕ → Line
-logicalNotEqual a b = val (Of.Two 83 a b)
+logicalNotEqual a b = val (Entry.Two 83 a b)
 
 abbrev pub select : ℕ → ℕ → ℕ → Line
-select a b c = val (Of.Three 90 a b c)
+select a b c = val (Entry.Three 90 a b c)
 
 abbrev pub bitFieldUExtract : ℕ → ℕ → ℕ → Line
-bitFieldUExtract a b c = val (Of.Three 91 a b c)
+bitFieldUExtract a b c = val (Entry.Three 91 a b c)
 
 abbrev pub bitFieldSExtract : ℕ → ℕ → ℕ → Line
-bitFieldSExtract a b c = val (Of.Three 92 a b c)
+bitFieldSExtract a b c = val (Entry.Three 92 a b c)
 
 abbrev pub bitFieldInsert : ℕ → ℕ → ℕ → ℕ → Line
-bitFieldInsert a b c d = val (Of.Four 93 a b c d)
+bitFieldInsert a b c d = val (Entry.Four 93 a b c d)

@@ -5,7 +5,7 @@ use Prim.Native.Nat.{ℕ, _+_, _*_}
 use lib.Dec.{eqb, ltb, leb}
 use lib.ListN.{length, getD, drop}
 use Rattle.strip.specs.declared.reader.Entry.{Entry}
-use Rattle.strip.specs.declared.reader.Entry.the-variants as Of
+use Rattle.strip.specs.declared.reader.Entry.the-variants as Entry
 use Rattle.strip.specs.Shape.{stripBytes}
 use Rattle.translation.specs.Insn.{Insn, bits, bit}
 use Rattle.translation.specs.Code.{Code, Built, build}
@@ -15,14 +15,14 @@ use Rattle.translation.specs.Marks.{uses}
 use Rattle.translation.specs.declared.answer.Outcome.{Outcome}
 use Rattle.translation.specs.declared.answer.Outcome.the-variants.{Written, Refused}
 use Rattle.translation.specs.declared.answer.Refusal.{Refusal}
-use Rattle.translation.specs.declared.answer.Refusal.the-variants.{BadLength, UnknownKind, UnknownForm, LaneMov, ByteThree, NoRoom}
+use Rattle.translation.specs.declared.answer.Refusal.the-variants.{BadLength, UnknownKind, UnknownForm, SystemValueMov, ByteThree, NoRoom}
 
 -- 01's number of a refusal
 unfoldable pub refusalNumber : Refusal → ℕ
 refusalNumber BadLength = 1
 refusalNumber UnknownKind = 2
 refusalNumber UnknownForm = 3
-refusalNumber LaneMov = 4
+refusalNumber SystemValueMov = 4
 refusalNumber ByteThree = 5
 refusalNumber NoRoom = 6
 
@@ -32,9 +32,9 @@ numberOf (Written n) = 0
 numberOf (Refused r) = refusalNumber r
 
 -- a strip's length, 0 of a refusal
-unfoldable pub written : Outcome → ℕ
-written (Written n) = n
-written (Refused r) = 0
+unfoldable pub lengthOf : Outcome → ℕ
+lengthOf (Written n) = n
+lengthOf (Refused r) = 0
 
 -- the guard: a predicate, negated or not
 abbrev pub guard : Insn → ℕ
@@ -45,40 +45,40 @@ guardNot i = bit i 19
 
 -- `guarded` around a body: nothing of a guard that always holds, nothing at all where it never does, else a block
 abbrev pub block : Built → Code → List Entry
-block g c = g .entries ++ (Of.One 100 (g .result) ∷ (build c [] (g .next) .entries ++ (Of.Bare 101 ∷ [])))
+block g c = g .entries ++ (Entry.One 100 (g .result) ∷ (build c [] (g .next) .entries ++ (Entry.Bare 101 ∷ [])))
 
 unfoldable pub guarded : Insn → Code → List Entry
 guarded i c = cond (eqb (guard i) 7) (cond (guardNot i) [] (build c [] 0 .entries)) (block (build (p (guard i) (guardNot i)) [] 0) c)
 
 -- the entries of kind k's strip, and its bytes
 unfoldable pub entriesOf : ℕ → Insn → List Entry
-entriesOf k i = guarded i (armOf k i) ++ (Of.Bare 255 ∷ [])
+entriesOf k i = guarded i (armOf k i) ++ (Entry.Bare 255 ∷ [])
 
 unfoldable pub strip : ℕ → Insn → List ℕ
 strip k i = stripBytes (entriesOf k i)
 
--- the marks behind it: a guard that never holds raises none
+-- the marks after it: a guard that never holds raises none
 unfoldable pub marked : ℕ → Insn → List ℕ → List ℕ
 marked k i m = cond (eqb (guard i) 7 && guardNot i) m (uses (armOf k i) m)
 
 -- ---- the record: 18 bytes, little-endian
 
-abbrev pub halfAt : List ℕ → ℕ → ℕ
-halfAt l n = getD l n 0 + getD l (n + 1) 0 * 256 + getD l (n + 2) 0 * 65536 + getD l (n + 3) 0 * 16777216
+abbrev pub wordAt32 : List ℕ → ℕ → ℕ
+wordAt32 l n = getD l n 0 + getD l (n + 1) 0 * 256 + getD l (n + 2) 0 * 65536 + getD l (n + 3) 0 * 16777216
 
-abbrev pub wordAt : List ℕ → ℕ → ℕ
-wordAt l n = halfAt l n + halfAt l (n + 4) * 4294967296
+abbrev pub wordAt64 : List ℕ → ℕ → ℕ
+wordAt64 l n = wordAt32 l n + wordAt32 l (n + 4) * 4294967296
 
 abbrev pub insnOf : List ℕ → Insn
-insnOf l = record { form = getD l 1 0; value = wordAt l 2; word = wordAt l 10 }
+insnOf l = record { form = getD l 1 0; value = wordAt64 l 2; word = wordAt64 l 10 }
 
 -- the kinds of 01
 unfoldable pub known : ℕ → Bool
 known k = leb 1 k && leb k 30
 
--- mov with the opcode's value 0xf0c8 << 48
-unfoldable pub laneMov : ℕ → Insn → Bool
-laneMov k i = eqb k 1 && eqb (i .value) 17350117564444835840
+-- mov of a system value: the opcode's value is 0xf0c8 << 48
+unfoldable pub systemValueMov : ℕ → Insn → Bool
+systemValueMov k i = eqb k 1 && eqb (i .value) 17350117564444835840
 
 -- i2i of a half, from byte 3 on
 unfoldable pub byteThree : ℕ → Insn → Bool
@@ -88,7 +88,7 @@ byteThree k i = eqb k 24 && (eqb (bits i 10 2) 1 && eqb (bits i 41 2) 3)
 unfoldable pub admits : List ℕ → Bool
 admits l =
     eqb (length l) 18
-    && (known (getD l 0 0) && (not (ltb 2 (insnOf l .form)) && (not (laneMov (getD l 0 0) (insnOf l)) && not (byteThree (getD l 0 0) (insnOf l)))))
+    && (known (getD l 0 0) && (not (ltb 2 (insnOf l .form)) && (not (systemValueMov (getD l 0 0) (insnOf l)) && not (byteThree (getD l 0 0) (insnOf l)))))
 
 -- ---- what is decided: the strip's length or a refusal, the marks, the room
 
@@ -111,7 +111,7 @@ unfoldable pub admitted : ℕ → Insn → List ℕ → List ℕ → Decision
 admitted k i m out =
     cond (known k)
     (cond (ltb 2 (i .form)) (refused UnknownForm m out)
-    (cond (laneMov k i) (refused LaneMov m out)
+    (cond (systemValueMov k i) (refused SystemValueMov m out)
     (cond (byteThree k i) (refused ByteThree m out) (fitted k i m out))))
     (refused UnknownKind m out)
 
@@ -127,7 +127,7 @@ pub record Answer : Type 0 where
   pub out : List ℕ
 
 abbrev pub answerOf : Decision → Answer
-answerOf d = record { number = numberOf (d .outcome); length = written (d .outcome); marks = d .marks; out = d .out }
+answerOf d = record { number = numberOf (d .outcome); length = lengthOf (d .outcome); marks = d .marks; out = d .out }
 
 unfoldable pub translation : List ℕ → List ℕ → List ℕ → Answer
 translation l m out = answerOf (decision l m out)

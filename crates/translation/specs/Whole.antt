@@ -3,7 +3,7 @@ use mathlib.Core.Bool.{cond}
 use mathlib.Core.List.{List, []}
 use Prim.Native.Nat.{ℕ}
 use lib.Dec.{eqb}
-use Rattle.strip.specs.declared.reader.Entry.the-variants as Of
+use Rattle.strip.specs.declared.reader.Entry.the-variants as Entry
 use Rattle.translation.specs.Insn.{Insn}
 use Rattle.translation.specs.Helpers.{p}
 use Rattle.translation.specs.Arms.{armOf}
@@ -11,14 +11,14 @@ use Rattle.translation.specs.Emit.{Buffer, Value, wrote, emits}
 use Rattle.translation.specs.Strip.{Decision, guard, guardNot}
 use Rattle.translation.specs.declared.answer.Translated as D
 
--- behind the arm: the end; in a block, the close before it
+-- after the arm: the end; in a block, the close before it
 unfoldable pub writes : ℕ → Insn → Buffer → Buffer
 writes k i b =
-    cond (eqb (guard i) 7) (cond (guardNot i) (wrote (Of.Bare 255) b) (wrote (Of.Bare 255) (emits (armOf k i) [] b .buffer)))
-    (wrote (Of.Bare 255)
-    (wrote (Of.Bare 101)
-    (emits (armOf k i) [] (wrote (Of.One 100 (emits (p (guard i) (guardNot i)) [] b .number)) (emits (p (guard i) (guardNot i)) [] b .buffer)) .buffer)))
+    cond (eqb (guard i) 7) (cond (guardNot i) (wrote (Entry.Bare 255) b) (wrote (Entry.Bare 255) (emits (armOf k i) [] b .buffer)))
+    (wrote (Entry.Bare 255)
+    (wrote (Entry.Bare 101)
+    (emits (armOf k i) [] (wrote (Entry.One 100 (emits (p (guard i) (guardNot i)) [] b .number)) (emits (p (guard i) (guardNot i)) [] b .buffer)) .buffer)))
 
--- what the entry point hands back and leaves behind
-abbrev pub answered : D.Translated → List ℕ → Decision
-answered t out = record { outcome = t .outcome; marks = t .«cbuf_used»; out = out }
+-- what the entry point hands back and what it leaves in the lent lists
+abbrev pub decisionOf : D.Translated → List ℕ → Decision
+decisionOf t out = record { outcome = t .outcome; marks = t .«cbuf_used»; out = out }

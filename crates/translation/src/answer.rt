@@ -4,11 +4,11 @@ ghost use mathlib.Core.List.{[]};
 ghost use Prim.Native.Nat.{_+_, _*_, _<_, _≤_, max};
 ghost use lib.ListN.{length};
 ghost use lib.Seq.{paste};
-ghost use Rattle.translation.specs.Arms.{armOf, bitArm, sumArm, wordArm};
-ghost use Rattle.translation.specs.Emit.{view, seen, Does};
+ghost use Rattle.translation.specs.Arms.{armOf};
+ghost use Rattle.translation.specs.Emit.{view, viewMade, Does};
 ghost use Rattle.translation.specs.Marks.{raise};
-ghost use Rattle.translation.specs.Strip.{guard, refusalNumber, known, laneMov, byteThree, halfAt, wordAt, fitted, admitted, answerOf, translation};
-ghost use Rattle.translation.specs.Whole.{writes, answered};
+ghost use Rattle.translation.specs.Strip.{guard, refusalNumber, known, systemValueMov, byteThree, wordAt32, wordAt64, fitted, admitted, answerOf, translation};
+ghost use Rattle.translation.specs.Whole.{writes, decisionOf};
 use crate::arm::bfe;
 use crate::arm::bfi;
 use crate::arm::csetp;
@@ -55,8 +55,8 @@ pub enum Refusal {
     UnknownKind,
     // The form is above 2.
     UnknownForm,
-    // mov with the lane mask of opcode value 0xf0c8 << 48.
-    LaneMov,
+    // mov of a system value: opcode value 0xf0c8 << 48.
+    SystemValueMov,
     // i2i of a half, from byte 3 on.
     ByteThree,
     // The room is shorter than the strip.
@@ -71,7 +71,7 @@ pub fn refusal_number(r: Refusal) -> u32
         Refusal::BadLength => 1,
         Refusal::UnknownKind => 2,
         Refusal::UnknownForm => 3,
-        Refusal::LaneMov => 4,
+        Refusal::SystemValueMov => 4,
         Refusal::ByteThree => 5,
         Refusal::NoRoom => 6,
     }
@@ -89,57 +89,9 @@ pub struct Translated {
     pub cbuf_used: [u32; 32],
 }
 
-// The arm of a kind, in four groups. The last: vmnmx, conversion, counts, predicates and flags in a register, two words at once.
-fn word_arm(buf: &mut [u8; 264], at: Pos, kind: u8, i: Insn) -> Made
-    ensures { λ m. ⌜ Does (view (now (buf .entry)) at) (seen (now (buf .exit)) m) (wordArm kind i) [] ⌝ }
-{
-    match kind {
-        23 => vmnmx(buf, at, i),
-        24 => i2i(buf, at, i),
-        25 => flo(buf, at, i),
-        26 => popc(buf, at, i),
-        27 => r2p(buf, at, i),
-        28 => p2r(buf, at, i),
-        29 => shf(buf, at, i),
-        _ => lea(buf, at, i),
-    }
-}
-
-// Logic, shifts and fields, and the group above.
-fn bit_arm(buf: &mut [u8; 264], at: Pos, kind: u8, i: Insn) -> Made
-    ensures { λ m. ⌜ Does (view (now (buf .entry)) at) (seen (now (buf .exit)) m) (bitArm kind i) [] ⌝ }
-{
-    match kind {
-        16 => lop(buf, at, i),
-        17 => lop32i(buf, at, i),
-        18 => lop3_arm(buf, at, i),
-        19 => shl(buf, at, i),
-        20 => shr(buf, at, i),
-        21 => bfe(buf, at, i),
-        22 => bfi(buf, at, i),
-        _ => word_arm(buf, at, kind, i),
-    }
-}
-
-// Sums, minimum, comparison, and the groups above.
-fn sum_arm(buf: &mut [u8; 264], at: Pos, kind: u8, i: Insn) -> Made
-    ensures { λ m. ⌜ Does (view (now (buf .entry)) at) (seen (now (buf .exit)) m) (sumArm kind i) [] ⌝ }
-{
-    match kind {
-        9 => iadd(buf, at, i),
-        10 => iadd32i(buf, at, i),
-        11 => iadd3(buf, at, i),
-        12 => iscadd(buf, at, i),
-        13 => xmad(buf, at, i),
-        14 => imnmx(buf, at, i),
-        15 => icmp(buf, at, i),
-        _ => bit_arm(buf, at, kind, i),
-    }
-}
-
-// Moves, predicates, and the groups above: all kinds.
+// The arm of each kind; the last is lea.
 fn op(buf: &mut [u8; 264], at: Pos, kind: u8, i: Insn) -> Made
-    ensures { λ m. ⌜ Does (view (now (buf .entry)) at) (seen (now (buf .exit)) m) (armOf kind i) [] ⌝ }
+    ensures { λ m. ⌜ Does (view (now (buf .entry)) at) (viewMade (now (buf .exit)) m) (armOf kind i) [] ⌝ }
 {
     match kind {
         1 => mov(buf, at, i),
@@ -150,7 +102,28 @@ fn op(buf: &mut [u8; 264], at: Pos, kind: u8, i: Insn) -> Made
         6 => icompare(buf, at, false, i),
         7 => pcombine(buf, at, true, i),
         8 => pcombine(buf, at, false, i),
-        _ => sum_arm(buf, at, kind, i),
+        9 => iadd(buf, at, i),
+        10 => iadd32i(buf, at, i),
+        11 => iadd3(buf, at, i),
+        12 => iscadd(buf, at, i),
+        13 => xmad(buf, at, i),
+        14 => imnmx(buf, at, i),
+        15 => icmp(buf, at, i),
+        16 => lop(buf, at, i),
+        17 => lop32i(buf, at, i),
+        18 => lop3_arm(buf, at, i),
+        19 => shl(buf, at, i),
+        20 => shr(buf, at, i),
+        21 => bfe(buf, at, i),
+        22 => bfi(buf, at, i),
+        23 => vmnmx(buf, at, i),
+        24 => i2i(buf, at, i),
+        25 => flo(buf, at, i),
+        26 => popc(buf, at, i),
+        27 => r2p(buf, at, i),
+        28 => p2r(buf, at, i),
+        29 => shf(buf, at, i),
+        _ => lea(buf, at, i),
     }
 }
 
@@ -215,7 +188,7 @@ fn copy(from: &[u8], out: &mut [u8], n: usize)
 }
 
 fn finish(kind: u8, i: Insn, marks: [u32; 32], out: &mut [u8]) -> Translated
-    ensures { λ r. ⌜ answered r (now (out .exit)) ≡ fitted kind i marks (now (out .entry)) ⌝ }
+    ensures { λ r. ⌜ decisionOf r (now (out .exit)) ≡ fitted kind i marks (now (out .entry)) ⌝ }
 {
     let mut buf = [0u8; 264];
     let start = Pos {
@@ -246,8 +219,8 @@ fn known(k: u8) -> bool
     both(1 <= k, k <= 30)
 }
 
-fn lane_mov(k: u8, i: Insn) -> bool
-    ensures { λ r. ⌜ r ≡ laneMov k i ⌝ }
+fn system_value_mov(k: u8, i: Insn) -> bool
+    ensures { λ r. ⌜ r ≡ systemValueMov k i ⌝ }
 {
     both(k == 1, i.value == 0xf0c8_0000_0000_0000)
 }
@@ -269,7 +242,7 @@ fn refused(why: Refusal, marks: [u32; 32]) -> Translated
 
 // What 01 admits, in its order of refusals.
 fn admit(kind: u8, i: Insn, marks: [u32; 32], out: &mut [u8]) -> Translated
-    ensures { λ r. ⌜ answered r (now (out .exit)) ≡ admitted kind i marks (now (out .entry)) ⌝ }
+    ensures { λ r. ⌜ decisionOf r (now (out .exit)) ≡ admitted kind i marks (now (out .entry)) ⌝ }
 {
     if !known(kind) {
         return refused(Refusal::UnknownKind, marks);
@@ -277,8 +250,8 @@ fn admit(kind: u8, i: Insn, marks: [u32; 32], out: &mut [u8]) -> Translated
     if 2 < i.form {
         return refused(Refusal::UnknownForm, marks);
     }
-    if lane_mov(kind, i) {
-        return refused(Refusal::LaneMov, marks);
+    if system_value_mov(kind, i) {
+        return refused(Refusal::SystemValueMov, marks);
     }
     if byte_three(kind, i) {
         return refused(Refusal::ByteThree, marks);
@@ -294,7 +267,7 @@ fn wide(x: u8) -> u64
 
 fn half_at(s: &[u8], at: usize) -> u64
     requires { ⌜ at + 4 ≤ length (now s) ⌝ }
-    ensures { λ r. ⌜ (r ≡ halfAt (now (s .entry)) at) × (r < 4294967296) ⌝ }
+    ensures { λ r. ⌜ (r ≡ wordAt32 (now (s .entry)) at) × (r < 4294967296) ⌝ }
 {
     let a = wide(s[at]);
     let b = wide(s[at + 1]);
@@ -305,7 +278,7 @@ fn half_at(s: &[u8], at: usize) -> u64
 
 fn word_at(s: &[u8], at: usize) -> u64
     requires { ⌜ at + 8 ≤ length (now s) ⌝ }
-    ensures { λ r. ⌜ r ≡ wordAt (now (s .entry)) at ⌝ }
+    ensures { λ r. ⌜ r ≡ wordAt64 (now (s .entry)) at ⌝ }
 {
     let low = half_at(s, at);
     let high = half_at(s, at + 4);
@@ -314,7 +287,7 @@ fn word_at(s: &[u8], at: usize) -> u64
 
 // A record's strip at the front of out, and nothing else of it; or a refusal, which leaves the marks and out as they are.
 pub fn translate(bytes: &[u8], cbuf_used: [u32; 32], out: &mut [u8]) -> Translated
-    ensures { λ r. ⌜ answerOf (answered r (now (out .exit))) ≡ translation (now (bytes .entry)) «cbuf_used» (now (out .entry)) ⌝ }
+    ensures { λ r. ⌜ answerOf (decisionOf r (now (out .exit))) ≡ translation (now (bytes .entry)) «cbuf_used» (now (out .entry)) ⌝ }
 {
     if bytes.len() != 18 {
         return refused(Refusal::BadLength, cbuf_used);

@@ -1,10 +1,10 @@
 // The thirty arms of `op` (translate.rs), and their parts: each writes the entries of its definition in specs/Arms.antt.
 ghost use mathlib.Core.List.{[], _∷_};
 ghost use Prim.Native.Nat.{_<_, _≤_};
-ghost use Rattle.translation.specs.Arms.{absolute, bfe, bfi, bfiOf, csetp, extractField, fieldOf, findMsb, flo, floShift, i2i, iadd, iadd3, iadd32i, iadd3Fetch, iadd3Of, iadd3Shift, iaddOf, icmp, icmpOf, icompare, imnmx, insertField, iscadd, lea, leaB, leaJoin, leaWord, loadCell, lop, lop32i, lop3Arm, lopPredicate, lopTest, lopWord, maxOf, minOf, minOrMax, mov, mov32i, noteUnless, p2r, p2rTurn, p2rTurns, pcombine, popc, prepared, r2p, r2pTurn, r2pTurns, reverseIf, saturateIf, sel, setEither, setTruth, setWord, setpBoth, shf, shfAmount, shfOf, shfSelect, shfWord, shl, shr, storeCell, useField, vmnmx, vmnmxB, vmnmxFirst, vmnmxInsert, vmnmxMerge, vmnmxMixed, vmnmxOf, vmnmxSaturate, vmnmxWord, xmad, xmadAlter, xmadFetch, xmadMerge, xmadOf, xmadProduct, xmadShift};
+ghost use Rattle.translation.specs.Arms.{absolute, bfe, bfi, bfiWords, csetp, fieldAtB, findMsb, flo, floShift, i2i, iadd, iadd3, iadd32i, iadd3Fetch, iadd3Words, iadd3Shift, iaddWords, icmp, icmpWords, icompare, imnmx, iscadd, lea, leaB, leaJoin, leaWord, loadCell, lop, lop32i, lop3Arm, lopPredicate, lopTest, lopWord, maximum, minimum, minOrMax, mov, mov32i, noteUnless, p2r, p2rTurn, p2rTurns, pcombine, popc, prepared, r2p, r2pTurn, r2pTurns, reverseIf, saturateIf, sel, setEither, setTruth, setWord, setpBoth, shf, shfAmount, shfWords, shfSelect, shfWord, shl, shr, storeCell, useField, vmnmx, vmnmxB, vmnmxFirst, vmnmxInsert, vmnmxMerge, vmnmxMixed, vmnmxWords, vmnmxSaturate, vmnmxWord, xmad, xmadAlter, xmadFetch, xmadMerge, xmadWords, xmadProduct, xmadShift};
 ghost use Rattle.translation.specs.Helpers.{p, r, set};
 ghost use Rattle.translation.specs.Insn.{bit, bits, ra, rc, rd};
-ghost use Rattle.translation.specs.Emit.{view, seen, Does};
+ghost use Rattle.translation.specs.Emit.{view, viewMade, Does};
 use crate::helper::add_with_flags;
 use crate::helper::b2u;
 use crate::helper::bool_op;
@@ -79,47 +79,47 @@ use crate::writer::u;
 
 // what many arms fetch and store by the instruction's fields: its registers, its predicate
 pub fn r_a(buf: &mut [u8; 264], at: Pos, i: Insn) -> Made
-    ensures { λ m. ⌜ Does (view (now (buf .entry)) at) (seen (now (buf .exit)) m) (r (ra i)) [] ⌝ }
+    ensures { λ m. ⌜ Does (view (now (buf .entry)) at) (viewMade (now (buf .exit)) m) (r (ra i)) [] ⌝ }
 {
     r(buf, at, ra(i))
 }
 
 pub fn r_c(buf: &mut [u8; 264], at: Pos, i: Insn) -> Made
-    ensures { λ m. ⌜ Does (view (now (buf .entry)) at) (seen (now (buf .exit)) m) (r (rc i)) [] ⌝ }
+    ensures { λ m. ⌜ Does (view (now (buf .entry)) at) (viewMade (now (buf .exit)) m) (r (rc i)) [] ⌝ }
 {
     r(buf, at, rc(i))
 }
 
-pub fn p_39(buf: &mut [u8; 264], at: Pos, i: Insn) -> Made
-    ensures { λ m. ⌜ Does (view (now (buf .entry)) at) (seen (now (buf .exit)) m) (p (bits i 39 3) (bit i 42)) [] ⌝ }
+pub fn predicate_at_39(buf: &mut [u8; 264], at: Pos, i: Insn) -> Made
+    ensures { λ m. ⌜ Does (view (now (buf .entry)) at) (viewMade (now (buf .exit)) m) (p (bits i 39 3) (bit i 42)) [] ⌝ }
 {
     p(buf, at, bits8(i, 39, 3), bit(i, 42))
 }
 
 pub fn set_d(buf: &mut [u8; 264], at: Pos, i: Insn, v: u8) -> Made
-    ensures { λ m. ⌜ Does (view (now (buf .entry)) at) (seen (now (buf .exit)) m) (set (rd i)) (v ∷ []) ⌝ }
+    ensures { λ m. ⌜ Does (view (now (buf .entry)) at) (viewMade (now (buf .exit)) m) (set (rd i)) (v ∷ []) ⌝ }
 {
     set(buf, at, rd(i), v)
 }
 
 pub fn mov(buf: &mut [u8; 264], at: Pos, i: Insn) -> Made
-    ensures { λ m. ⌜ Does (view (now (buf .entry)) at) (seen (now (buf .exit)) m) (mov i) [] ⌝ }
+    ensures { λ m. ⌜ Does (view (now (buf .entry)) at) (viewMade (now (buf .exit)) m) (mov i) [] ⌝ }
 {
     let v = src_b(buf, at, i);
     set_d(buf, v.pos, i, v.value)
 }
 
 pub fn mov32i(buf: &mut [u8; 264], at: Pos, i: Insn) -> Made
-    ensures { λ m. ⌜ Does (view (now (buf .entry)) at) (seen (now (buf .exit)) m) (mov32i i) [] ⌝ }
+    ensures { λ m. ⌜ Does (view (now (buf .entry)) at) (viewMade (now (buf .exit)) m) (mov32i i) [] ⌝ }
 {
     let v = u(buf, at, imm32(i));
     set_d(buf, v.pos, i, v.value)
 }
 
 pub fn sel(buf: &mut [u8; 264], at: Pos, i: Insn) -> Made
-    ensures { λ m. ⌜ Does (view (now (buf .entry)) at) (seen (now (buf .exit)) m) (sel i) [] ⌝ }
+    ensures { λ m. ⌜ Does (view (now (buf .entry)) at) (viewMade (now (buf .exit)) m) (sel i) [] ⌝ }
 {
-    let c = p_39(buf, at, i);
+    let c = predicate_at_39(buf, at, i);
     let a = r_a(buf, c.pos, i);
     let b = src_b(buf, a.pos, i);
     let v = three(buf, b.pos, 90, c.value, a.value, b.value);
@@ -128,7 +128,7 @@ pub fn sel(buf: &mut [u8; 264], at: Pos, i: Insn) -> Made
 
 // of a test and a predicate: both combined, then the test's negation and the predicate; stored in this order
 pub fn setp_both(buf: &mut [u8; 264], at: Pos, i: Insn, c: u8, pv: u8) -> Made
-    ensures { λ m. ⌜ Does (view (now (buf .entry)) at) (seen (now (buf .exit)) m) (setpBoth i) (c ∷ pv ∷ []) ⌝ }
+    ensures { λ m. ⌜ Does (view (now (buf .entry)) at) (viewMade (now (buf .exit)) m) (setpBoth i) (c ∷ pv ∷ []) ⌝ }
 {
     let op = bits8(i, 45, 2);
     let x = bool_op(buf, at, op, c, pv);
@@ -139,7 +139,7 @@ pub fn setp_both(buf: &mut [u8; 264], at: Pos, i: Insn, c: u8, pv: u8) -> Made
 }
 
 pub fn set_truth(buf: &mut [u8; 264], at: Pos, i: Insn, c: u8) -> Made
-    ensures { λ m. ⌜ Does (view (now (buf .entry)) at) (seen (now (buf .exit)) m) (setTruth i) (c ∷ []) ⌝ }
+    ensures { λ m. ⌜ Does (view (now (buf .entry)) at) (viewMade (now (buf .exit)) m) (setTruth i) (c ∷ []) ⌝ }
 {
     let v = b2u(buf, at, truth_word(i), 0, c);
     let v2 = set_cc_if(buf, v.pos, bit(i, 47), v.value);
@@ -147,15 +147,15 @@ pub fn set_truth(buf: &mut [u8; 264], at: Pos, i: Insn, c: u8) -> Made
 }
 
 pub fn csetp(buf: &mut [u8; 264], at: Pos, i: Insn) -> Made
-    ensures { λ m. ⌜ Does (view (now (buf .entry)) at) (seen (now (buf .exit)) m) (csetp i) [] ⌝ }
+    ensures { λ m. ⌜ Does (view (now (buf .entry)) at) (viewMade (now (buf .exit)) m) (csetp i) [] ⌝ }
 {
     let c = cc_test(buf, at, bits8(i, 8, 5));
-    let pv = p_39(buf, c.pos, i);
+    let pv = predicate_at_39(buf, c.pos, i);
     setp_both(buf, pv.pos, i, c.value, pv.value)
 }
 
 pub fn set_word(buf: &mut [u8; 264], at: Pos, i: Insn, c: u8, pv: u8) -> Made
-    ensures { λ m. ⌜ Does (view (now (buf .entry)) at) (seen (now (buf .exit)) m) (setWord i) (c ∷ pv ∷ []) ⌝ }
+    ensures { λ m. ⌜ Does (view (now (buf .entry)) at) (viewMade (now (buf .exit)) m) (setWord i) (c ∷ pv ∷ []) ⌝ }
 {
     let x = bool_op(buf, at, bits8(i, 45, 2), c, pv);
     set_truth(buf, x.pos, i, x.value)
@@ -163,7 +163,7 @@ pub fn set_word(buf: &mut [u8; 264], at: Pos, i: Insn, c: u8, pv: u8) -> Made
 
 // to two predicates (isetp, psetp) or to a register (iset, pset)
 pub fn set_either(buf: &mut [u8; 264], at: Pos, pair: bool, i: Insn, a: u8, b: u8) -> Made
-    ensures { λ m. ⌜ Does (view (now (buf .entry)) at) (seen (now (buf .exit)) m) (setEither pair i) (a ∷ b ∷ []) ⌝ }
+    ensures { λ m. ⌜ Does (view (now (buf .entry)) at) (viewMade (now (buf .exit)) m) (setEither pair i) (a ∷ b ∷ []) ⌝ }
 {
     if pair {
         setp_both(buf, at, i, a, b)
@@ -174,29 +174,29 @@ pub fn set_either(buf: &mut [u8; 264], at: Pos, pair: bool, i: Insn, a: u8, b: u
 
 // isetp, iset
 pub fn icompare(buf: &mut [u8; 264], at: Pos, pair: bool, i: Insn) -> Made
-    ensures { λ m. ⌜ Does (view (now (buf .entry)) at) (seen (now (buf .exit)) m) (icompare pair i) [] ⌝ }
+    ensures { λ m. ⌜ Does (view (now (buf .entry)) at) (viewMade (now (buf .exit)) m) (icompare pair i) [] ⌝ }
 {
     let a = r_a(buf, at, i);
     let b = src_b(buf, a.pos, i);
-    let pv = p_39(buf, b.pos, i);
+    let pv = predicate_at_39(buf, b.pos, i);
     let c = int_cmp(buf, pv.pos, bits8(i, 49, 3), bit(i, 48), a.value, b.value);
     set_either(buf, c.pos, pair, i, c.value, pv.value)
 }
 
 // psetp, pset
 pub fn pcombine(buf: &mut [u8; 264], at: Pos, pair: bool, i: Insn) -> Made
-    ensures { λ m. ⌜ Does (view (now (buf .entry)) at) (seen (now (buf .exit)) m) (pcombine pair i) [] ⌝ }
+    ensures { λ m. ⌜ Does (view (now (buf .entry)) at) (viewMade (now (buf .exit)) m) (pcombine pair i) [] ⌝ }
 {
     let a = p(buf, at, bits8(i, 12, 3), bit(i, 15));
     let b = p(buf, a.pos, bits8(i, 29, 3), bit(i, 32));
-    let c = p_39(buf, b.pos, i);
+    let c = predicate_at_39(buf, b.pos, i);
     let ab = bool_op(buf, c.pos, bits8(i, 24, 2), a.value, b.value);
     set_either(buf, ab.pos, pair, i, ab.value, c.value)
 }
 
 // an operand: complemented with extend or where one sign bit is set, negated where both are
 pub fn prepared(buf: &mut [u8; 264], at: Pos, complement: bool, on: bool, v: u8) -> Made
-    ensures { λ m. ⌜ Does (view (now (buf .entry)) at) (seen (now (buf .exit)) m) (prepared complement on) (v ∷ []) ⌝ }
+    ensures { λ m. ⌜ Does (view (now (buf .entry)) at) (viewMade (now (buf .exit)) m) (prepared complement on) (v ∷ []) ⌝ }
 {
     if complement {
         inot(buf, at, on, v)
@@ -205,7 +205,7 @@ pub fn prepared(buf: &mut [u8; 264], at: Pos, complement: bool, on: bool, v: u8)
     }
 }
 
-pub fn iadd_of(
+pub fn iadd_words(
     buf: &mut [u8; 264],
     at: Pos,
     d: u8,
@@ -217,7 +217,7 @@ pub fn iadd_of(
     a: u8,
     b: u8,
 ) -> Made
-    ensures { λ m. ⌜ Does (view (now (buf .entry)) at) (seen (now (buf .exit)) m) (iaddOf d na nb x cc sat) (a ∷ b ∷ []) ⌝ }
+    ensures { λ m. ⌜ Does (view (now (buf .entry)) at) (viewMade (now (buf .exit)) m) (iaddWords d na nb x cc sat) (a ∷ b ∷ []) ⌝ }
 {
     let complement = either(x, na != nb);
     let a = prepared(buf, at, complement, na, a);
@@ -230,11 +230,11 @@ pub fn iadd_of(
 }
 
 pub fn iadd(buf: &mut [u8; 264], at: Pos, i: Insn) -> Made
-    ensures { λ m. ⌜ Does (view (now (buf .entry)) at) (seen (now (buf .exit)) m) (iadd i) [] ⌝ }
+    ensures { λ m. ⌜ Does (view (now (buf .entry)) at) (viewMade (now (buf .exit)) m) (iadd i) [] ⌝ }
 {
     let a = r_a(buf, at, i);
     let b = src_b(buf, a.pos, i);
-    iadd_of(
+    iadd_words(
         buf,
         b.pos,
         rd(i),
@@ -249,11 +249,11 @@ pub fn iadd(buf: &mut [u8; 264], at: Pos, i: Insn) -> Made
 }
 
 pub fn iadd32i(buf: &mut [u8; 264], at: Pos, i: Insn) -> Made
-    ensures { λ m. ⌜ Does (view (now (buf .entry)) at) (seen (now (buf .exit)) m) (iadd32i i) [] ⌝ }
+    ensures { λ m. ⌜ Does (view (now (buf .entry)) at) (viewMade (now (buf .exit)) m) (iadd32i i) [] ⌝ }
 {
     let a = r_a(buf, at, i);
     let b = u(buf, a.pos, imm32(i));
-    iadd_of(
+    iadd_words(
         buf,
         b.pos,
         rd(i),
@@ -268,7 +268,7 @@ pub fn iadd32i(buf: &mut [u8; 264], at: Pos, i: Insn) -> Made
 }
 
 pub fn iadd3_shift(buf: &mut [u8; 264], at: Pos, s: u8, v: u8, n: u8) -> Made
-    ensures { λ m. ⌜ Does (view (now (buf .entry)) at) (seen (now (buf .exit)) m) (iadd3Shift s) (v ∷ n ∷ []) ⌝ }
+    ensures { λ m. ⌜ Does (view (now (buf .entry)) at) (viewMade (now (buf .exit)) m) (iadd3Shift s) (v ∷ n ∷ []) ⌝ }
 {
     match s {
         1 => two(buf, at, 44, v, n),
@@ -277,8 +277,8 @@ pub fn iadd3_shift(buf: &mut [u8; 264], at: Pos, s: u8, v: u8, n: u8) -> Made
     }
 }
 
-pub fn iadd3_of(buf: &mut [u8; 264], at: Pos, i: Insn, a: u8, b: u8, c: u8) -> Made
-    ensures { λ m. ⌜ Does (view (now (buf .entry)) at) (seen (now (buf .exit)) m) (iadd3Of i) (a ∷ b ∷ c ∷ []) ⌝ }
+pub fn iadd3_words(buf: &mut [u8; 264], at: Pos, i: Insn, a: u8, b: u8, c: u8) -> Made
+    ensures { λ m. ⌜ Does (view (now (buf .entry)) at) (viewMade (now (buf .exit)) m) (iadd3Words i) (a ∷ b ∷ c ∷ []) ⌝ }
 {
     let a = ineg(buf, at, bit(i, 51), a);
     let b = ineg(buf, a.pos, bit(i, 50), b);
@@ -295,7 +295,7 @@ pub fn iadd3_of(buf: &mut [u8; 264], at: Pos, i: Insn, a: u8, b: u8, c: u8) -> M
 
 // the register form takes halves of its operands
 pub fn iadd3_fetch(buf: &mut [u8; 264], at: Pos, i: Insn, a: u8) -> Made
-    ensures { λ m. ⌜ Does (view (now (buf .entry)) at) (seen (now (buf .exit)) m) (iadd3Fetch i) (a ∷ []) ⌝ }
+    ensures { λ m. ⌜ Does (view (now (buf .entry)) at) (viewMade (now (buf .exit)) m) (iadd3Fetch i) (a ∷ []) ⌝ }
 {
     if i.form == 0 {
         let b = r(buf, at, rb(i));
@@ -303,23 +303,23 @@ pub fn iadd3_fetch(buf: &mut [u8; 264], at: Pos, i: Insn, a: u8) -> Made
         let a = half_select(buf, c.pos, bits8(i, 35, 2), a);
         let b2 = half_select(buf, a.pos, bits8(i, 33, 2), b.value);
         let c2 = half_select(buf, b2.pos, bits8(i, 31, 2), c.value);
-        iadd3_of(buf, c2.pos, i, a.value, b2.value, c2.value)
+        iadd3_words(buf, c2.pos, i, a.value, b2.value, c2.value)
     } else {
         let b = src_b(buf, at, i);
         let c = r_c(buf, b.pos, i);
-        iadd3_of(buf, c.pos, i, a, b.value, c.value)
+        iadd3_words(buf, c.pos, i, a, b.value, c.value)
     }
 }
 
 pub fn iadd3(buf: &mut [u8; 264], at: Pos, i: Insn) -> Made
-    ensures { λ m. ⌜ Does (view (now (buf .entry)) at) (seen (now (buf .exit)) m) (iadd3 i) [] ⌝ }
+    ensures { λ m. ⌜ Does (view (now (buf .entry)) at) (viewMade (now (buf .exit)) m) (iadd3 i) [] ⌝ }
 {
     let a = r_a(buf, at, i);
     iadd3_fetch(buf, a.pos, i, a.value)
 }
 
 pub fn iscadd(buf: &mut [u8; 264], at: Pos, i: Insn) -> Made
-    ensures { λ m. ⌜ Does (view (now (buf .entry)) at) (seen (now (buf .exit)) m) (iscadd i) [] ⌝ }
+    ensures { λ m. ⌜ Does (view (now (buf .entry)) at) (viewMade (now (buf .exit)) m) (iscadd i) [] ⌝ }
 {
     let a = r_a(buf, at, i);
     let a2 = ineg(buf, a.pos, bit(i, 49), a.value);
@@ -332,7 +332,7 @@ pub fn iscadd(buf: &mut [u8; 264], at: Pos, i: Insn) -> Made
 }
 
 pub fn xmad_shift(buf: &mut [u8; 264], at: Pos, on: bool, v: u8) -> Made
-    ensures { λ m. ⌜ Does (view (now (buf .entry)) at) (seen (now (buf .exit)) m) (xmadShift on) (v ∷ []) ⌝ }
+    ensures { λ m. ⌜ Does (view (now (buf .entry)) at) (viewMade (now (buf .exit)) m) (xmadShift on) (v ∷ []) ⌝ }
 {
     if on {
         let s = u(buf, at, 16);
@@ -344,7 +344,7 @@ pub fn xmad_shift(buf: &mut [u8; 264], at: Pos, on: bool, v: u8) -> Made
 
 // c as the mode alters it, of c, b and sixteen
 pub fn xmad_alter(buf: &mut [u8; 264], at: Pos, mode: u8, c: u8, b: u8, n: u8) -> Made
-    ensures { λ m. ⌜ Does (view (now (buf .entry)) at) (seen (now (buf .exit)) m) (xmadAlter mode) (c ∷ b ∷ n ∷ []) ⌝ }
+    ensures { λ m. ⌜ Does (view (now (buf .entry)) at) (viewMade (now (buf .exit)) m) (xmadAlter mode) (c ∷ b ∷ n ∷ []) ⌝ }
 {
     if mode == 1 {
         let m = u(buf, at, 0xffff);
@@ -366,7 +366,7 @@ pub fn xmad_alter(buf: &mut [u8; 264], at: Pos, mode: u8, c: u8, b: u8, n: u8) -
 
 // of v, b and sixteen
 pub fn xmad_merge(buf: &mut [u8; 264], at: Pos, on: bool, v: u8, b: u8, n: u8) -> Made
-    ensures { λ m. ⌜ Does (view (now (buf .entry)) at) (seen (now (buf .exit)) m) (xmadMerge on) (v ∷ b ∷ n ∷ []) ⌝ }
+    ensures { λ m. ⌜ Does (view (now (buf .entry)) at) (viewMade (now (buf .exit)) m) (xmadMerge on) (v ∷ b ∷ n ∷ []) ⌝ }
 {
     if on {
         let m = u(buf, at, 0xffff);
@@ -379,7 +379,7 @@ pub fn xmad_merge(buf: &mut [u8; 264], at: Pos, on: bool, v: u8, b: u8, n: u8) -
 }
 
 pub fn xmad_product(buf: &mut [u8; 264], at: Pos, i: Insn, a: u8, b: u8) -> Made
-    ensures { λ m. ⌜ Does (view (now (buf .entry)) at) (seen (now (buf .exit)) m) (xmadProduct i) (a ∷ b ∷ []) ⌝ }
+    ensures { λ m. ⌜ Does (view (now (buf .entry)) at) (viewMade (now (buf .exit)) m) (xmadProduct i) (a ∷ b ∷ []) ⌝ }
 {
     let a16 = half16(buf, at, bit(i, 53), bit(i, 48), a);
     let b16 = half16(buf, a16.pos, xmad_high(i), xmad_signed(i), b);
@@ -387,8 +387,8 @@ pub fn xmad_product(buf: &mut [u8; 264], at: Pos, i: Insn, a: u8, b: u8) -> Made
     xmad_shift(buf, v.pos, xmad_psl(i), v.value)
 }
 
-pub fn xmad_of(buf: &mut [u8; 264], at: Pos, i: Insn, a: u8, b: u8, c: u8) -> Made
-    ensures { λ m. ⌜ Does (view (now (buf .entry)) at) (seen (now (buf .exit)) m) (xmadOf i) (a ∷ b ∷ c ∷ []) ⌝ }
+pub fn xmad_words(buf: &mut [u8; 264], at: Pos, i: Insn, a: u8, b: u8, c: u8) -> Made
+    ensures { λ m. ⌜ Does (view (now (buf .entry)) at) (viewMade (now (buf .exit)) m) (xmadWords i) (a ∷ b ∷ c ∷ []) ⌝ }
 {
     let prod = xmad_product(buf, at, i, a, b);
     let sixteen = u(buf, prod.pos, 16);
@@ -399,27 +399,27 @@ pub fn xmad_of(buf: &mut [u8; 264], at: Pos, i: Insn, a: u8, b: u8, c: u8) -> Ma
 }
 
 pub fn xmad_fetch(buf: &mut [u8; 264], at: Pos, i: Insn, a: u8) -> Made
-    ensures { λ m. ⌜ Does (view (now (buf .entry)) at) (seen (now (buf .exit)) m) (xmadFetch i) (a ∷ []) ⌝ }
+    ensures { λ m. ⌜ Does (view (now (buf .entry)) at) (viewMade (now (buf .exit)) m) (xmadFetch i) (a ∷ []) ⌝ }
 {
     if i.form == 2 {
         let b = u(buf, at, bits(i, 20, 16) as u32);
         let c = r_c(buf, b.pos, i);
-        xmad_of(buf, c.pos, i, a, b.value, c.value)
+        xmad_words(buf, c.pos, i, a, b.value, c.value)
     } else {
         let w = src_bc(buf, at, i, xmad_swaps(i));
-        xmad_of(buf, w.pos, i, a, w.b, w.c)
+        xmad_words(buf, w.pos, i, a, w.b, w.c)
     }
 }
 
 pub fn xmad(buf: &mut [u8; 264], at: Pos, i: Insn) -> Made
-    ensures { λ m. ⌜ Does (view (now (buf .entry)) at) (seen (now (buf .exit)) m) (xmad i) [] ⌝ }
+    ensures { λ m. ⌜ Does (view (now (buf .entry)) at) (viewMade (now (buf .exit)) m) (xmad i) [] ⌝ }
 {
     let a = r_a(buf, at, i);
     xmad_fetch(buf, a.pos, i, a.value)
 }
 
-pub fn min_of(buf: &mut [u8; 264], at: Pos, signed: bool, a: u8, b: u8) -> Made
-    ensures { λ m. ⌜ Does (view (now (buf .entry)) at) (seen (now (buf .exit)) m) (minOf signed) (a ∷ b ∷ []) ⌝ }
+pub fn minimum(buf: &mut [u8; 264], at: Pos, signed: bool, a: u8, b: u8) -> Made
+    ensures { λ m. ⌜ Does (view (now (buf .entry)) at) (viewMade (now (buf .exit)) m) (minimum signed) (a ∷ b ∷ []) ⌝ }
 {
     if signed {
         two(buf, at, 50, a, b)
@@ -428,8 +428,8 @@ pub fn min_of(buf: &mut [u8; 264], at: Pos, signed: bool, a: u8, b: u8) -> Made
     }
 }
 
-pub fn max_of(buf: &mut [u8; 264], at: Pos, signed: bool, a: u8, b: u8) -> Made
-    ensures { λ m. ⌜ Does (view (now (buf .entry)) at) (seen (now (buf .exit)) m) (maxOf signed) (a ∷ b ∷ []) ⌝ }
+pub fn maximum(buf: &mut [u8; 264], at: Pos, signed: bool, a: u8, b: u8) -> Made
+    ensures { λ m. ⌜ Does (view (now (buf .entry)) at) (viewMade (now (buf .exit)) m) (maximum signed) (a ∷ b ∷ []) ⌝ }
 {
     if signed {
         two(buf, at, 52, a, b)
@@ -439,20 +439,20 @@ pub fn max_of(buf: &mut [u8; 264], at: Pos, signed: bool, a: u8, b: u8) -> Made
 }
 
 pub fn imnmx(buf: &mut [u8; 264], at: Pos, i: Insn) -> Made
-    ensures { λ m. ⌜ Does (view (now (buf .entry)) at) (seen (now (buf .exit)) m) (imnmx i) [] ⌝ }
+    ensures { λ m. ⌜ Does (view (now (buf .entry)) at) (viewMade (now (buf .exit)) m) (imnmx i) [] ⌝ }
 {
     let bit48 = bit(i, 48);
     let a = r_a(buf, at, i);
     let b = src_b(buf, a.pos, i);
-    let c = p_39(buf, b.pos, i);
-    let lo = min_of(buf, c.pos, bit48, a.value, b.value);
-    let hi = max_of(buf, lo.pos, bit48, a.value, b.value);
+    let c = predicate_at_39(buf, b.pos, i);
+    let lo = minimum(buf, c.pos, bit48, a.value, b.value);
+    let hi = maximum(buf, lo.pos, bit48, a.value, b.value);
     let v = three(buf, hi.pos, 90, c.value, lo.value, hi.value);
     set_d(buf, v.pos, i, v.value)
 }
 
-pub fn icmp_of(buf: &mut [u8; 264], at: Pos, i: Insn, a: u8, b: u8, c: u8) -> Made
-    ensures { λ m. ⌜ Does (view (now (buf .entry)) at) (seen (now (buf .exit)) m) (icmpOf i) (a ∷ b ∷ c ∷ []) ⌝ }
+pub fn icmp_words(buf: &mut [u8; 264], at: Pos, i: Insn, a: u8, b: u8, c: u8) -> Made
+    ensures { λ m. ⌜ Does (view (now (buf .entry)) at) (viewMade (now (buf .exit)) m) (icmpWords i) (a ∷ b ∷ c ∷ []) ⌝ }
 {
     let zero = u(buf, at, 0);
     let t = int_cmp(buf, zero.pos, bits8(i, 49, 3), bit(i, 48), c, zero.value);
@@ -461,15 +461,15 @@ pub fn icmp_of(buf: &mut [u8; 264], at: Pos, i: Insn, a: u8, b: u8, c: u8) -> Ma
 }
 
 pub fn icmp(buf: &mut [u8; 264], at: Pos, i: Insn) -> Made
-    ensures { λ m. ⌜ Does (view (now (buf .entry)) at) (seen (now (buf .exit)) m) (icmp i) [] ⌝ }
+    ensures { λ m. ⌜ Does (view (now (buf .entry)) at) (viewMade (now (buf .exit)) m) (icmp i) [] ⌝ }
 {
     let a = r_a(buf, at, i);
     let w = src_bc(buf, a.pos, i, icmp_swaps(i));
-    icmp_of(buf, w.pos, i, a.value, w.b, w.c)
+    icmp_words(buf, w.pos, i, a.value, w.b, w.c)
 }
 
 pub fn lop_word(buf: &mut [u8; 264], at: Pos, o: u8, a: u8, b: u8) -> Made
-    ensures { λ m. ⌜ Does (view (now (buf .entry)) at) (seen (now (buf .exit)) m) (lopWord o) (a ∷ b ∷ []) ⌝ }
+    ensures { λ m. ⌜ Does (view (now (buf .entry)) at) (viewMade (now (buf .exit)) m) (lopWord o) (a ∷ b ∷ []) ⌝ }
 {
     match o {
         0 => two(buf, at, 46, a, b),
@@ -481,7 +481,7 @@ pub fn lop_word(buf: &mut [u8; 264], at: Pos, o: u8, a: u8, b: u8) -> Made
 
 // the predicate of lop, of the result and zero
 pub fn lop_test(buf: &mut [u8; 264], at: Pos, t: u8, v: u8, z: u8) -> Made
-    ensures { λ m. ⌜ Does (view (now (buf .entry)) at) (seen (now (buf .exit)) m) (lopTest t) (v ∷ z ∷ []) ⌝ }
+    ensures { λ m. ⌜ Does (view (now (buf .entry)) at) (viewMade (now (buf .exit)) m) (lopTest t) (v ∷ z ∷ []) ⌝ }
 {
     match t {
         2 => two(buf, at, 60, v, z),
@@ -492,7 +492,7 @@ pub fn lop_test(buf: &mut [u8; 264], at: Pos, t: u8, v: u8, z: u8) -> Made
 }
 
 pub fn lop_predicate(buf: &mut [u8; 264], at: Pos, i: Insn, v: u8) -> Made
-    ensures { λ m. ⌜ Does (view (now (buf .entry)) at) (seen (now (buf .exit)) m) (lopPredicate i) (v ∷ []) ⌝ }
+    ensures { λ m. ⌜ Does (view (now (buf .entry)) at) (viewMade (now (buf .exit)) m) (lopPredicate i) (v ∷ []) ⌝ }
 {
     let k = bits8(i, 48, 3);
     if k == 7 {
@@ -507,7 +507,7 @@ pub fn lop_predicate(buf: &mut [u8; 264], at: Pos, i: Insn, v: u8) -> Made
 }
 
 pub fn lop(buf: &mut [u8; 264], at: Pos, i: Insn) -> Made
-    ensures { λ m. ⌜ Does (view (now (buf .entry)) at) (seen (now (buf .exit)) m) (lop i) [] ⌝ }
+    ensures { λ m. ⌜ Does (view (now (buf .entry)) at) (viewMade (now (buf .exit)) m) (lop i) [] ⌝ }
 {
     let b = src_b(buf, at, i);
     let a = r_a(buf, b.pos, i);
@@ -520,7 +520,7 @@ pub fn lop(buf: &mut [u8; 264], at: Pos, i: Insn) -> Made
 }
 
 pub fn lop32i(buf: &mut [u8; 264], at: Pos, i: Insn) -> Made
-    ensures { λ m. ⌜ Does (view (now (buf .entry)) at) (seen (now (buf .exit)) m) (lop32i i) [] ⌝ }
+    ensures { λ m. ⌜ Does (view (now (buf .entry)) at) (viewMade (now (buf .exit)) m) (lop32i i) [] ⌝ }
 {
     let b = u(buf, at, imm32(i));
     let a = r_a(buf, b.pos, i);
@@ -532,7 +532,7 @@ pub fn lop32i(buf: &mut [u8; 264], at: Pos, i: Insn) -> Made
 }
 
 pub fn lop3_arm(buf: &mut [u8; 264], at: Pos, i: Insn) -> Made
-    ensures { λ m. ⌜ Does (view (now (buf .entry)) at) (seen (now (buf .exit)) m) (lop3Arm i) [] ⌝ }
+    ensures { λ m. ⌜ Does (view (now (buf .entry)) at) (viewMade (now (buf .exit)) m) (lop3Arm i) [] ⌝ }
 {
     let a = r_a(buf, at, i);
     let b = src_b(buf, a.pos, i);
@@ -542,7 +542,7 @@ pub fn lop3_arm(buf: &mut [u8; 264], at: Pos, i: Insn) -> Made
 }
 
 pub fn shl(buf: &mut [u8; 264], at: Pos, i: Insn) -> Made
-    ensures { λ m. ⌜ Does (view (now (buf .entry)) at) (seen (now (buf .exit)) m) (shl i) [] ⌝ }
+    ensures { λ m. ⌜ Does (view (now (buf .entry)) at) (viewMade (now (buf .exit)) m) (shl i) [] ⌝ }
 {
     let a = r_a(buf, at, i);
     let b = src_b(buf, a.pos, i);
@@ -551,7 +551,7 @@ pub fn shl(buf: &mut [u8; 264], at: Pos, i: Insn) -> Made
 }
 
 pub fn reverse_if(buf: &mut [u8; 264], at: Pos, on: bool, v: u8) -> Made
-    ensures { λ m. ⌜ Does (view (now (buf .entry)) at) (seen (now (buf .exit)) m) (reverseIf on) (v ∷ []) ⌝ }
+    ensures { λ m. ⌜ Does (view (now (buf .entry)) at) (viewMade (now (buf .exit)) m) (reverseIf on) (v ∷ []) ⌝ }
 {
     if on {
         one(buf, at, 21, v)
@@ -561,7 +561,7 @@ pub fn reverse_if(buf: &mut [u8; 264], at: Pos, on: bool, v: u8) -> Made
 }
 
 pub fn shr(buf: &mut [u8; 264], at: Pos, i: Insn) -> Made
-    ensures { λ m. ⌜ Does (view (now (buf .entry)) at) (seen (now (buf .exit)) m) (shr i) [] ⌝ }
+    ensures { λ m. ⌜ Does (view (now (buf .entry)) at) (viewMade (now (buf .exit)) m) (shr i) [] ⌝ }
 {
     let a = r_a(buf, at, i);
     let b = src_b(buf, a.pos, i);
@@ -578,47 +578,28 @@ pub fn shr(buf: &mut [u8; 264], at: Pos, i: Insn) -> Made
     set_d(buf, v.pos, i, v.value)
 }
 
-pub fn insert_field(buf: &mut [u8; 264], at: Pos, c: u8, a: u8, pos: u8, len: u8) -> Made
-    ensures { λ m. ⌜ Does (view (now (buf .entry)) at) (seen (now (buf .exit)) m) insertField (c ∷ a ∷ pos ∷ len ∷ []) ⌝ }
-{
-    four(buf, at, 93, c, a, pos, len)
-}
-
-pub fn extract_field(
+// The field of a, or c with a put into it: the Rust's `extract` and `bit_field_insert`.
+pub fn use_field(
     buf: &mut [u8; 264],
     at: Pos,
+    insert: bool,
     signed: bool,
     c: u8,
     a: u8,
     pos: u8,
     len: u8,
 ) -> Made
-    ensures { λ m. ⌜ Does (view (now (buf .entry)) at) (seen (now (buf .exit)) m) (extractField signed) (c ∷ a ∷ pos ∷ len ∷ []) ⌝ }
-{
-    extract(buf, at, signed, a, pos, len)
-}
-
-pub fn use_field(
-    buf: &mut [u8; 264],
-    at: Pos,
-    insert: bool,
-    signed: bool,
-    a: u8,
-    b: u8,
-    c: u8,
-    d: u8,
-) -> Made
-    ensures { λ m. ⌜ Does (view (now (buf .entry)) at) (seen (now (buf .exit)) m) (useField insert signed) (a ∷ b ∷ c ∷ d ∷ []) ⌝ }
+    ensures { λ m. ⌜ Does (view (now (buf .entry)) at) (viewMade (now (buf .exit)) m) (useField insert signed) (c ∷ a ∷ pos ∷ len ∷ []) ⌝ }
 {
     if insert {
-        insert_field(buf, at, a, b, c, d)
+        four(buf, at, 93, c, a, pos, len)
     } else {
-        extract_field(buf, at, signed, a, b, c, d)
+        extract(buf, at, signed, a, pos, len)
     }
 }
 
 // position and length out of b, then the field of a (bfe) or a put into that of c (bfi)
-pub fn field_of(
+pub fn field_at_b(
     buf: &mut [u8; 264],
     at: Pos,
     insert: bool,
@@ -627,7 +608,7 @@ pub fn field_of(
     a: u8,
     b: u8,
 ) -> Made
-    ensures { λ m. ⌜ Does (view (now (buf .entry)) at) (seen (now (buf .exit)) m) (fieldOf insert signed) (c ∷ a ∷ b ∷ []) ⌝ }
+    ensures { λ m. ⌜ Does (view (now (buf .entry)) at) (viewMade (now (buf .exit)) m) (fieldAtB insert signed) (c ∷ a ∷ b ∷ []) ⌝ }
 {
     let ff = u(buf, at, 255);
     let pos = two(buf, ff.pos, 46, b, ff.value);
@@ -642,32 +623,32 @@ pub fn field_of(
 }
 
 pub fn bfe(buf: &mut [u8; 264], at: Pos, i: Insn) -> Made
-    ensures { λ m. ⌜ Does (view (now (buf .entry)) at) (seen (now (buf .exit)) m) (bfe i) [] ⌝ }
+    ensures { λ m. ⌜ Does (view (now (buf .entry)) at) (viewMade (now (buf .exit)) m) (bfe i) [] ⌝ }
 {
     let a = r_a(buf, at, i);
     let b = src_b(buf, a.pos, i);
     let a2 = reverse_if(buf, b.pos, bit(i, 40), a.value);
-    let v = field_of(buf, a2.pos, false, bit(i, 48), a2.value, a2.value, b.value);
+    let v = field_at_b(buf, a2.pos, false, bit(i, 48), a2.value, a2.value, b.value);
     set_d(buf, v.pos, i, v.value)
 }
 
-pub fn bfi_of(buf: &mut [u8; 264], at: Pos, i: Insn, a: u8, b: u8, c: u8) -> Made
-    ensures { λ m. ⌜ Does (view (now (buf .entry)) at) (seen (now (buf .exit)) m) (bfiOf i) (a ∷ b ∷ c ∷ []) ⌝ }
+pub fn bfi_words(buf: &mut [u8; 264], at: Pos, i: Insn, a: u8, b: u8, c: u8) -> Made
+    ensures { λ m. ⌜ Does (view (now (buf .entry)) at) (viewMade (now (buf .exit)) m) (bfiWords i) (a ∷ b ∷ c ∷ []) ⌝ }
 {
-    let v = field_of(buf, at, true, false, c, a, b);
+    let v = field_at_b(buf, at, true, false, c, a, b);
     set_d(buf, v.pos, i, v.value)
 }
 
 pub fn bfi(buf: &mut [u8; 264], at: Pos, i: Insn) -> Made
-    ensures { λ m. ⌜ Does (view (now (buf .entry)) at) (seen (now (buf .exit)) m) (bfi i) [] ⌝ }
+    ensures { λ m. ⌜ Does (view (now (buf .entry)) at) (viewMade (now (buf .exit)) m) (bfi i) [] ⌝ }
 {
     let a = r_a(buf, at, i);
     let w = src_bc(buf, a.pos, i, bfi_swaps(i));
-    bfi_of(buf, w.pos, i, a.value, w.b, w.c)
+    bfi_words(buf, w.pos, i, a.value, w.b, w.c)
 }
 
 pub fn vmnmx_b(buf: &mut [u8; 264], at: Pos, i: Insn) -> Made
-    ensures { λ m. ⌜ Does (view (now (buf .entry)) at) (seen (now (buf .exit)) m) (vmnmxB i) [] ⌝ }
+    ensures { λ m. ⌜ Does (view (now (buf .entry)) at) (viewMade (now (buf .exit)) m) (vmnmxB i) [] ⌝ }
 {
     if bit(i, 50) {
         let b = r(buf, at, rb(i));
@@ -679,7 +660,7 @@ pub fn vmnmx_b(buf: &mut [u8; 264], at: Pos, i: Insn) -> Made
 
 // both operands of mixed signs: of the signed one, the other one and zero, with v of them in the Rust's order
 pub fn vmnmx_mixed(buf: &mut [u8; 264], at: Pos, max: bool, v: u8, s: u8, o: u8, zero: u8) -> Made
-    ensures { λ m. ⌜ Does (view (now (buf .entry)) at) (seen (now (buf .exit)) m) (vmnmxMixed max) (v ∷ s ∷ o ∷ zero ∷ []) ⌝ }
+    ensures { λ m. ⌜ Does (view (now (buf .entry)) at) (viewMade (now (buf .exit)) m) (vmnmxMixed max) (v ∷ s ∷ o ∷ zero ∷ []) ⌝ }
 {
     if max {
         let n = two(buf, at, 66, s, zero);
@@ -691,7 +672,7 @@ pub fn vmnmx_mixed(buf: &mut [u8; 264], at: Pos, max: bool, v: u8, s: u8, o: u8,
 }
 
 pub fn vmnmx_first(buf: &mut [u8; 264], at: Pos, max: bool, a: u8, b: u8) -> Made
-    ensures { λ m. ⌜ Does (view (now (buf .entry)) at) (seen (now (buf .exit)) m) (vmnmxFirst max) (a ∷ b ∷ []) ⌝ }
+    ensures { λ m. ⌜ Does (view (now (buf .entry)) at) (viewMade (now (buf .exit)) m) (vmnmxFirst max) (a ∷ b ∷ []) ⌝ }
 {
     if max {
         two(buf, at, 51, a, b)
@@ -701,12 +682,12 @@ pub fn vmnmx_first(buf: &mut [u8; 264], at: Pos, max: bool, a: u8, b: u8) -> Mad
 }
 
 pub fn min_or_max(buf: &mut [u8; 264], at: Pos, max: bool, signed: bool, a: u8, b: u8) -> Made
-    ensures { λ m. ⌜ Does (view (now (buf .entry)) at) (seen (now (buf .exit)) m) (minOrMax max signed) (a ∷ b ∷ []) ⌝ }
+    ensures { λ m. ⌜ Does (view (now (buf .entry)) at) (viewMade (now (buf .exit)) m) (minOrMax max signed) (a ∷ b ∷ []) ⌝ }
 {
     if max {
-        max_of(buf, at, signed, a, b)
+        maximum(buf, at, signed, a, b)
     } else {
-        min_of(buf, at, signed, a, b)
+        minimum(buf, at, signed, a, b)
     }
 }
 
@@ -721,7 +702,7 @@ pub fn vmnmx_word(
     b: u8,
     zero: u8,
 ) -> Made
-    ensures { λ m. ⌜ Does (view (now (buf .entry)) at) (seen (now (buf .exit)) m) (vmnmxWord sa sb max) (a ∷ b ∷ zero ∷ []) ⌝ }
+    ensures { λ m. ⌜ Does (view (now (buf .entry)) at) (viewMade (now (buf .exit)) m) (vmnmxWord sa sb max) (a ∷ b ∷ zero ∷ []) ⌝ }
 {
     if sa == sb {
         return min_or_max(buf, at, max, sa, a, b);
@@ -744,7 +725,7 @@ pub fn vmnmx_saturate(
     v: u8,
     zero: u8,
 ) -> Made
-    ensures { λ m. ⌜ Does (view (now (buf .entry)) at) (seen (now (buf .exit)) m) (vmnmxSaturate on dformat signed) (v ∷ zero ∷ []) ⌝ }
+    ensures { λ m. ⌜ Does (view (now (buf .entry)) at) (viewMade (now (buf .exit)) m) (vmnmxSaturate on dformat signed) (v ∷ zero ∷ []) ⌝ }
 {
     if both(on, both(dformat, !signed)) {
         let m = u(buf, at, 0x7fff_ffff);
@@ -757,7 +738,7 @@ pub fn vmnmx_saturate(
 }
 
 pub fn vmnmx_insert(buf: &mut [u8; 264], at: Pos, pos: u32, len: u32, v: u8, c: u8) -> Made
-    ensures { λ m. ⌜ Does (view (now (buf .entry)) at) (seen (now (buf .exit)) m) (vmnmxInsert pos len) (v ∷ c ∷ []) ⌝ }
+    ensures { λ m. ⌜ Does (view (now (buf .entry)) at) (viewMade (now (buf .exit)) m) (vmnmxInsert pos len) (v ∷ c ∷ []) ⌝ }
 {
     let off = u(buf, at, pos);
     let l = u(buf, off.pos, len);
@@ -766,7 +747,7 @@ pub fn vmnmx_insert(buf: &mut [u8; 264], at: Pos, pos: u32, len: u32, v: u8, c: 
 
 // of the result and c
 pub fn vmnmx_merge(buf: &mut [u8; 264], at: Pos, mode: u8, dformat: bool, v: u8, c: u8) -> Made
-    ensures { λ m. ⌜ Does (view (now (buf .entry)) at) (seen (now (buf .exit)) m) (vmnmxMerge mode dformat) (v ∷ c ∷ []) ⌝ }
+    ensures { λ m. ⌜ Does (view (now (buf .entry)) at) (viewMade (now (buf .exit)) m) (vmnmxMerge mode dformat) (v ∷ c ∷ []) ⌝ }
 {
     match mode {
         0 => vmnmx_insert(buf, at, 16, 16, v, c),
@@ -774,14 +755,14 @@ pub fn vmnmx_merge(buf: &mut [u8; 264], at: Pos, mode: u8, dformat: bool, v: u8,
         2 => vmnmx_insert(buf, at, 0, 8, v, c),
         3 => vmnmx_insert(buf, at, 16, 8, v, c),
         4 => two(buf, at, 40, v, c),
-        5 => min_of(buf, at, dformat, v, c),
-        6 => max_of(buf, at, dformat, v, c),
+        5 => minimum(buf, at, dformat, v, c),
+        6 => maximum(buf, at, dformat, v, c),
         _ => Made { pos: at, value: v },
     }
 }
 
-pub fn vmnmx_of(buf: &mut [u8; 264], at: Pos, i: Insn, a: u8, b: u8, c: u8) -> Made
-    ensures { λ m. ⌜ Does (view (now (buf .entry)) at) (seen (now (buf .exit)) m) (vmnmxOf i) (a ∷ b ∷ c ∷ []) ⌝ }
+pub fn vmnmx_words(buf: &mut [u8; 264], at: Pos, i: Insn, a: u8, b: u8, c: u8) -> Made
+    ensures { λ m. ⌜ Does (view (now (buf .entry)) at) (viewMade (now (buf .exit)) m) (vmnmxWords i) (a ∷ b ∷ c ∷ []) ⌝ }
 {
     let bit48 = bit(i, 48);
     let bit49 = bit(i, 49);
@@ -803,17 +784,17 @@ pub fn vmnmx_of(buf: &mut [u8; 264], at: Pos, i: Insn, a: u8, b: u8, c: u8) -> M
 }
 
 pub fn vmnmx(buf: &mut [u8; 264], at: Pos, i: Insn) -> Made
-    ensures { λ m. ⌜ Does (view (now (buf .entry)) at) (seen (now (buf .exit)) m) (vmnmx i) [] ⌝ }
+    ensures { λ m. ⌜ Does (view (now (buf .entry)) at) (viewMade (now (buf .exit)) m) (vmnmx i) [] ⌝ }
 {
     let a = r_a(buf, at, i);
     let a2 = video_operand(buf, a.pos, bits8(i, 36, 3), bit(i, 48), a.value);
     let b = vmnmx_b(buf, a2.pos, i);
     let c = r_c(buf, b.pos, i);
-    vmnmx_of(buf, c.pos, i, a2.value, b.value, c.value)
+    vmnmx_words(buf, c.pos, i, a2.value, b.value, c.value)
 }
 
 pub fn absolute(buf: &mut [u8; 264], at: Pos, on: bool, v: u8) -> Made
-    ensures { λ m. ⌜ Does (view (now (buf .entry)) at) (seen (now (buf .exit)) m) (absolute on) (v ∷ []) ⌝ }
+    ensures { λ m. ⌜ Does (view (now (buf .entry)) at) (viewMade (now (buf .exit)) m) (absolute on) (v ∷ []) ⌝ }
 {
     if on {
         let vi = one(buf, at, 23, v);
@@ -833,7 +814,7 @@ pub fn saturate_if(
     size: u8,
     v: u8,
 ) -> Made
-    ensures { λ m. ⌜ Does (view (now (buf .entry)) at) (seen (now (buf .exit)) m) (saturateIf on from to size) (v ∷ []) ⌝ }
+    ensures { λ m. ⌜ Does (view (now (buf .entry)) at) (viewMade (now (buf .exit)) m) (saturateIf on from to size) (v ∷ []) ⌝ }
 {
     if on {
         saturate_int(buf, at, from, to, size, v)
@@ -843,7 +824,7 @@ pub fn saturate_if(
 }
 
 pub fn i2i(buf: &mut [u8; 264], at: Pos, i: Insn) -> Made
-    ensures { λ m. ⌜ Does (view (now (buf .entry)) at) (seen (now (buf .exit)) m) (i2i i) [] ⌝ }
+    ensures { λ m. ⌜ Does (view (now (buf .entry)) at) (viewMade (now (buf .exit)) m) (i2i i) [] ⌝ }
 {
     let bit13 = bit(i, 13);
     let bit12 = bit(i, 12);
@@ -858,7 +839,7 @@ pub fn i2i(buf: &mut [u8; 264], at: Pos, i: Insn) -> Made
 }
 
 pub fn find_msb(buf: &mut [u8; 264], at: Pos, signed: bool, v: u8) -> Made
-    ensures { λ m. ⌜ Does (view (now (buf .entry)) at) (seen (now (buf .exit)) m) (findMsb signed) (v ∷ []) ⌝ }
+    ensures { λ m. ⌜ Does (view (now (buf .entry)) at) (viewMade (now (buf .exit)) m) (findMsb signed) (v ∷ []) ⌝ }
 {
     if signed {
         one(buf, at, 26, v)
@@ -868,7 +849,7 @@ pub fn find_msb(buf: &mut [u8; 264], at: Pos, signed: bool, v: u8) -> Made
 }
 
 pub fn flo_shift(buf: &mut [u8; 264], at: Pos, on: bool, v: u8) -> Made
-    ensures { λ m. ⌜ Does (view (now (buf .entry)) at) (seen (now (buf .exit)) m) (floShift on) (v ∷ []) ⌝ }
+    ensures { λ m. ⌜ Does (view (now (buf .entry)) at) (viewMade (now (buf .exit)) m) (floShift on) (v ∷ []) ⌝ }
 {
     if on {
         let c31 = u(buf, at, 31);
@@ -882,7 +863,7 @@ pub fn flo_shift(buf: &mut [u8; 264], at: Pos, on: bool, v: u8) -> Made
 }
 
 pub fn flo(buf: &mut [u8; 264], at: Pos, i: Insn) -> Made
-    ensures { λ m. ⌜ Does (view (now (buf .entry)) at) (seen (now (buf .exit)) m) (flo i) [] ⌝ }
+    ensures { λ m. ⌜ Does (view (now (buf .entry)) at) (viewMade (now (buf .exit)) m) (flo i) [] ⌝ }
 {
     let b = src_b(buf, at, i);
     let b2 = inot(buf, b.pos, bit(i, 40), b.value);
@@ -892,7 +873,7 @@ pub fn flo(buf: &mut [u8; 264], at: Pos, i: Insn) -> Made
 }
 
 pub fn popc(buf: &mut [u8; 264], at: Pos, i: Insn) -> Made
-    ensures { λ m. ⌜ Does (view (now (buf .entry)) at) (seen (now (buf .exit)) m) (popc i) [] ⌝ }
+    ensures { λ m. ⌜ Does (view (now (buf .entry)) at) (viewMade (now (buf .exit)) m) (popc i) [] ⌝ }
 {
     let b = src_b(buf, at, i);
     let b2 = inot(buf, b.pos, bit(i, 40), b.value);
@@ -901,7 +882,7 @@ pub fn popc(buf: &mut [u8; 264], at: Pos, i: Insn) -> Made
 }
 
 pub fn note_unless(buf: &mut [u8; 264], at: Pos, on: bool, n: u8, v: u8) -> Made
-    ensures { λ m. ⌜ Does (view (now (buf .entry)) at) (seen (now (buf .exit)) m) (noteUnless on n) (v ∷ []) ⌝ }
+    ensures { λ m. ⌜ Does (view (now (buf .entry)) at) (viewMade (now (buf .exit)) m) (noteUnless on n) (v ∷ []) ⌝ }
 {
     if on {
         Made { pos: at, value: v }
@@ -912,7 +893,7 @@ pub fn note_unless(buf: &mut [u8; 264], at: Pos, on: bool, n: u8, v: u8) -> Made
 }
 
 pub fn store_cell(buf: &mut [u8; 264], at: Pos, flag: bool, k: u8, v: u8) -> Made
-    ensures { λ m. ⌜ Does (view (now (buf .entry)) at) (seen (now (buf .exit)) m) (storeCell flag k) (v ∷ []) ⌝ }
+    ensures { λ m. ⌜ Does (view (now (buf .entry)) at) (viewMade (now (buf .exit)) m) (storeCell flag k) (v ∷ []) ⌝ }
 {
     if flag {
         let q = store(buf, at, 9, k, v);
@@ -925,7 +906,7 @@ pub fn store_cell(buf: &mut [u8; 264], at: Pos, flag: bool, k: u8, v: u8) -> Mad
 
 pub fn r2p_turn(buf: &mut [u8; 264], at: Pos, i: Insn, k: u8, a: u8) -> Made
     requires { ⌜ k < 8 ⌝ }
-    ensures { λ m. ⌜ Does (view (now (buf .entry)) at) (seen (now (buf .exit)) m) (r2pTurn i k) (a ∷ []) ⌝ }
+    ensures { λ m. ⌜ Does (view (now (buf .entry)) at) (viewMade (now (buf .exit)) m) (r2pTurn i k) (a ∷ []) ⌝ }
 {
     if asked(i, k) {
         let m = u(buf, at, cell_bit(i, k));
@@ -941,7 +922,7 @@ pub fn r2p_turn(buf: &mut [u8; 264], at: Pos, i: Insn, k: u8, a: u8) -> Made
 }
 
 pub fn r2p_turns(buf: &mut [u8; 264], at: Pos, i: Insn, a: u8) -> Made
-    ensures { λ m. ⌜ Does (view (now (buf .entry)) at) (seen (now (buf .exit)) m) (r2pTurns i) (a ∷ []) ⌝ }
+    ensures { λ m. ⌜ Does (view (now (buf .entry)) at) (viewMade (now (buf .exit)) m) (r2pTurns i) (a ∷ []) ⌝ }
 {
     let a = r2p_turn(buf, at, i, 0, a);
     let a2 = r2p_turn(buf, a.pos, i, 1, a.value);
@@ -953,7 +934,7 @@ pub fn r2p_turns(buf: &mut [u8; 264], at: Pos, i: Insn, a: u8) -> Made
 }
 
 pub fn r2p(buf: &mut [u8; 264], at: Pos, i: Insn) -> Made
-    ensures { λ m. ⌜ Does (view (now (buf .entry)) at) (seen (now (buf .exit)) m) (r2p i) [] ⌝ }
+    ensures { λ m. ⌜ Does (view (now (buf .entry)) at) (viewMade (now (buf .exit)) m) (r2p i) [] ⌝ }
 {
     let a = r_a(buf, at, i);
     let a2 = note_unless(buf, a.pos, i.form == 2, 2, a.value);
@@ -961,7 +942,7 @@ pub fn r2p(buf: &mut [u8; 264], at: Pos, i: Insn) -> Made
 }
 
 pub fn load_cell(buf: &mut [u8; 264], at: Pos, flag: bool, k: u8) -> Made
-    ensures { λ m. ⌜ Does (view (now (buf .entry)) at) (seen (now (buf .exit)) m) (loadCell flag k) [] ⌝ }
+    ensures { λ m. ⌜ Does (view (now (buf .entry)) at) (viewMade (now (buf .exit)) m) (loadCell flag k) [] ⌝ }
 {
     if flag {
         cell(buf, at, 6, k)
@@ -972,7 +953,7 @@ pub fn load_cell(buf: &mut [u8; 264], at: Pos, flag: bool, k: u8) -> Made
 
 pub fn p2r_turn(buf: &mut [u8; 264], at: Pos, i: Insn, k: u8, v: u8) -> Made
     requires { ⌜ k < 8 ⌝ }
-    ensures { λ m. ⌜ Does (view (now (buf .entry)) at) (seen (now (buf .exit)) m) (p2rTurn i k) (v ∷ []) ⌝ }
+    ensures { λ m. ⌜ Does (view (now (buf .entry)) at) (viewMade (now (buf .exit)) m) (p2rTurn i k) (v ∷ []) ⌝ }
 {
     if asked(i, k) {
         let t = load_cell(buf, at, bit(i, 40), k);
@@ -984,7 +965,7 @@ pub fn p2r_turn(buf: &mut [u8; 264], at: Pos, i: Insn, k: u8, v: u8) -> Made
 }
 
 pub fn p2r_turns(buf: &mut [u8; 264], at: Pos, i: Insn, v: u8) -> Made
-    ensures { λ m. ⌜ Does (view (now (buf .entry)) at) (seen (now (buf .exit)) m) (p2rTurns i) (v ∷ []) ⌝ }
+    ensures { λ m. ⌜ Does (view (now (buf .entry)) at) (viewMade (now (buf .exit)) m) (p2rTurns i) (v ∷ []) ⌝ }
 {
     let v = p2r_turn(buf, at, i, 0, v);
     let v2 = p2r_turn(buf, v.pos, i, 1, v.value);
@@ -996,7 +977,7 @@ pub fn p2r_turns(buf: &mut [u8; 264], at: Pos, i: Insn, v: u8) -> Made
 }
 
 pub fn p2r(buf: &mut [u8; 264], at: Pos, i: Insn) -> Made
-    ensures { λ m. ⌜ Does (view (now (buf .entry)) at) (seen (now (buf .exit)) m) (p2r i) [] ⌝ }
+    ensures { λ m. ⌜ Does (view (now (buf .entry)) at) (viewMade (now (buf .exit)) m) (p2r i) [] ⌝ }
 {
     let a = r_a(buf, at, i);
     let a2 = note_unless(buf, a.pos, i.form == 2, 3, a.value);
@@ -1007,7 +988,7 @@ pub fn p2r(buf: &mut [u8; 264], at: Pos, i: Insn) -> Made
 }
 
 pub fn shf_amount(buf: &mut [u8; 264], at: Pos, wrap: bool, n: u8, c31: u8, c32: u8) -> Made
-    ensures { λ m. ⌜ Does (view (now (buf .entry)) at) (seen (now (buf .exit)) m) (shfAmount wrap) (n ∷ c31 ∷ c32 ∷ []) ⌝ }
+    ensures { λ m. ⌜ Does (view (now (buf .entry)) at) (viewMade (now (buf .exit)) m) (shfAmount wrap) (n ∷ c31 ∷ c32 ∷ []) ⌝ }
 {
     if wrap {
         two(buf, at, 46, n, c31)
@@ -1018,7 +999,7 @@ pub fn shf_amount(buf: &mut [u8; 264], at: Pos, wrap: bool, n: u8, c31: u8, c32:
 
 // of the word that leads, the other one, the amount and 32
 pub fn shf_select(buf: &mut [u8; 264], at: Pos, x: u8, y: u8, v: u8, amount: u8, c32: u8) -> Made
-    ensures { λ m. ⌜ Does (view (now (buf .entry)) at) (seen (now (buf .exit)) m) shfSelect (x ∷ y ∷ v ∷ amount ∷ c32 ∷ []) ⌝ }
+    ensures { λ m. ⌜ Does (view (now (buf .entry)) at) (viewMade (now (buf .exit)) m) shfSelect (x ∷ y ∷ v ∷ amount ∷ c32 ∷ []) ⌝ }
 {
     let zero = u(buf, at, 0);
     let is0 = two(buf, zero.pos, 60, amount, zero.value);
@@ -1037,7 +1018,7 @@ pub fn shf_word(
     amount: u8,
     c32: u8,
 ) -> Made
-    ensures { λ m. ⌜ Does (view (now (buf .entry)) at) (seen (now (buf .exit)) m) (shfWord left) (low ∷ high ∷ amount ∷ c32 ∷ []) ⌝ }
+    ensures { λ m. ⌜ Does (view (now (buf .entry)) at) (viewMade (now (buf .exit)) m) (shfWord left) (low ∷ high ∷ amount ∷ c32 ∷ []) ⌝ }
 {
     if left {
         let inv = two(buf, at, 41, c32, amount);
@@ -1054,8 +1035,8 @@ pub fn shf_word(
     }
 }
 
-pub fn shf_of(buf: &mut [u8; 264], at: Pos, i: Insn, low: u8, n: u8, high: u8) -> Made
-    ensures { λ m. ⌜ Does (view (now (buf .entry)) at) (seen (now (buf .exit)) m) (shfOf i) (low ∷ n ∷ high ∷ []) ⌝ }
+pub fn shf_words(buf: &mut [u8; 264], at: Pos, i: Insn, low: u8, n: u8, high: u8) -> Made
+    ensures { λ m. ⌜ Does (view (now (buf .entry)) at) (viewMade (now (buf .exit)) m) (shfWords i) (low ∷ n ∷ high ∷ []) ⌝ }
 {
     let c31 = u(buf, at, 31);
     let c32 = u(buf, c31.pos, 32);
@@ -1074,16 +1055,16 @@ pub fn shf_of(buf: &mut [u8; 264], at: Pos, i: Insn, low: u8, n: u8, high: u8) -
 }
 
 pub fn shf(buf: &mut [u8; 264], at: Pos, i: Insn) -> Made
-    ensures { λ m. ⌜ Does (view (now (buf .entry)) at) (seen (now (buf .exit)) m) (shf i) [] ⌝ }
+    ensures { λ m. ⌜ Does (view (now (buf .entry)) at) (viewMade (now (buf .exit)) m) (shf i) [] ⌝ }
 {
     let low = r_a(buf, at, i);
     let n = src_b(buf, low.pos, i);
     let high = r_c(buf, n.pos, i);
-    shf_of(buf, high.pos, i, low.value, n.value, high.value)
+    shf_words(buf, high.pos, i, low.value, n.value, high.value)
 }
 
 pub fn lea_b(buf: &mut [u8; 264], at: Pos, i: Insn) -> Made
-    ensures { λ m. ⌜ Does (view (now (buf .entry)) at) (seen (now (buf .exit)) m) (leaB i) [] ⌝ }
+    ensures { λ m. ⌜ Does (view (now (buf .entry)) at) (viewMade (now (buf .exit)) m) (leaB i) [] ⌝ }
 {
     if lea_reg(i) {
         return r(buf, at, rb(i));
@@ -1096,7 +1077,7 @@ pub fn lea_b(buf: &mut [u8; 264], at: Pos, i: Insn) -> Made
 
 // of c, x and y: c alone where nothing is shifted
 pub fn lea_join(buf: &mut [u8; 264], at: Pos, unshifted: bool, c: u8, x: u8, y: u8) -> Made
-    ensures { λ m. ⌜ Does (view (now (buf .entry)) at) (seen (now (buf .exit)) m) (leaJoin unshifted) (c ∷ x ∷ y ∷ []) ⌝ }
+    ensures { λ m. ⌜ Does (view (now (buf .entry)) at) (viewMade (now (buf .exit)) m) (leaJoin unshifted) (c ∷ x ∷ y ∷ []) ⌝ }
 {
     if unshifted {
         Made { pos: at, value: c }
@@ -1106,7 +1087,7 @@ pub fn lea_join(buf: &mut [u8; 264], at: Pos, unshifted: bool, c: u8, x: u8, y: 
 }
 
 pub fn lea_word(buf: &mut [u8; 264], at: Pos, i: Insn, a: u8) -> Made
-    ensures { λ m. ⌜ Does (view (now (buf .entry)) at) (seen (now (buf .exit)) m) (leaWord i) (a ∷ []) ⌝ }
+    ensures { λ m. ⌜ Does (view (now (buf .entry)) at) (viewMade (now (buf .exit)) m) (leaWord i) (a ∷ []) ⌝ }
 {
     if lea_high(i) {
         let sh = lea_shift(i);
@@ -1123,7 +1104,7 @@ pub fn lea_word(buf: &mut [u8; 264], at: Pos, i: Insn, a: u8) -> Made
 }
 
 pub fn lea(buf: &mut [u8; 264], at: Pos, i: Insn) -> Made
-    ensures { λ m. ⌜ Does (view (now (buf .entry)) at) (seen (now (buf .exit)) m) (lea i) [] ⌝ }
+    ensures { λ m. ⌜ Does (view (now (buf .entry)) at) (viewMade (now (buf .exit)) m) (lea i) [] ⌝ }
 {
     let a = r_a(buf, at, i);
     let b = lea_b(buf, a.pos, i);

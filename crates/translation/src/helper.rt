@@ -5,7 +5,7 @@ ghost use mathlib.Core.List.{[], _∷_, _++_};
 ghost use Prim.Native.Nat.{_<_, _≤_};
 ghost use Rattle.translation.specs.Helpers.{addWithFlags, b2u, boolOp, carryFlag, cbufAt, cbufImm, ccCase, ccFlags, ccTest, clampHigh, extract, field, greaterThan, greaterThanEqual, half16, halfSelect, ineg, inot, intCmp, intSource, lessThan, lessThanEqual, logicalNotIf, lop3, lop3Row, lop3Rows, p, predicate, r, saturateAdd, saturateBy, saturateInt, set, setCc, setCcIf, setSumCc, setp, shift, shiftEnd, shiftFill, shifted, signedOverflow, srcB, videoOperand};
 ghost use Rattle.translation.specs.Insn.{cslot, cword};
-ghost use Rattle.translation.specs.Emit.{view, seen, Does, Fetches, given, words, orElse, summed, carryAdded, Carries};
+ghost use Rattle.translation.specs.Emit.{view, viewMade, Does, Fetches, isGiven, words, orElse, summed, carryAdded, Carries};
 use crate::insn::Insn;
 use crate::insn::cslot;
 use crate::insn::cword;
@@ -18,8 +18,8 @@ use crate::mode::highest;
 use crate::mode::lowest;
 use crate::mode::pick;
 use crate::mode::table_bit;
+use crate::writer::FetchedBc;
 use crate::writer::Made;
-use crate::writer::MadeTwo;
 use crate::writer::Pos;
 use crate::writer::cell;
 use crate::writer::four;
@@ -33,7 +33,7 @@ use crate::writer::two;
 use crate::writer::u;
 
 pub fn r(buf: &mut [u8; 264], at: Pos, k: u8) -> Made
-    ensures { λ m. ⌜ Does (view (now (buf .entry)) at) (seen (now (buf .exit)) m) (r k) [] ⌝ }
+    ensures { λ m. ⌜ Does (view (now (buf .entry)) at) (viewMade (now (buf .exit)) m) (r k) [] ⌝ }
 {
     if k == 255 {
         u(buf, at, 0)
@@ -43,7 +43,7 @@ pub fn r(buf: &mut [u8; 264], at: Pos, k: u8) -> Made
 }
 
 pub fn set(buf: &mut [u8; 264], at: Pos, k: u8, v: u8) -> Made
-    ensures { λ m. ⌜ Does (view (now (buf .entry)) at) (seen (now (buf .exit)) m) (set k) (v ∷ []) ⌝ }
+    ensures { λ m. ⌜ Does (view (now (buf .entry)) at) (viewMade (now (buf .exit)) m) (set k) (v ∷ []) ⌝ }
 {
     if k == 255 {
         Made { pos: at, value: v }
@@ -54,7 +54,7 @@ pub fn set(buf: &mut [u8; 264], at: Pos, k: u8, v: u8) -> Made
 }
 
 pub fn logical_not_if(buf: &mut [u8; 264], at: Pos, on: bool, v: u8) -> Made
-    ensures { λ m. ⌜ Does (view (now (buf .entry)) at) (seen (now (buf .exit)) m) (logicalNotIf on) (v ∷ []) ⌝ }
+    ensures { λ m. ⌜ Does (view (now (buf .entry)) at) (viewMade (now (buf .exit)) m) (logicalNotIf on) (v ∷ []) ⌝ }
 {
     if on {
         one(buf, at, 80, v)
@@ -64,7 +64,7 @@ pub fn logical_not_if(buf: &mut [u8; 264], at: Pos, on: bool, v: u8) -> Made
 }
 
 pub fn predicate(buf: &mut [u8; 264], at: Pos, k: u8) -> Made
-    ensures { λ m. ⌜ Does (view (now (buf .entry)) at) (seen (now (buf .exit)) m) (predicate k) [] ⌝ }
+    ensures { λ m. ⌜ Does (view (now (buf .entry)) at) (viewMade (now (buf .exit)) m) (predicate k) [] ⌝ }
 {
     if k == 7 {
         truth(buf, at, 2)
@@ -74,14 +74,14 @@ pub fn predicate(buf: &mut [u8; 264], at: Pos, k: u8) -> Made
 }
 
 pub fn p(buf: &mut [u8; 264], at: Pos, k: u8, n: bool) -> Made
-    ensures { λ m. ⌜ Does (view (now (buf .entry)) at) (seen (now (buf .exit)) m) (p k n) [] ⌝ }
+    ensures { λ m. ⌜ Does (view (now (buf .entry)) at) (viewMade (now (buf .exit)) m) (p k n) [] ⌝ }
 {
     let v = predicate(buf, at, k);
     logical_not_if(buf, v.pos, n, v.value)
 }
 
 pub fn setp(buf: &mut [u8; 264], at: Pos, k: u8, v: u8) -> Made
-    ensures { λ m. ⌜ Does (view (now (buf .entry)) at) (seen (now (buf .exit)) m) (setp k) (v ∷ []) ⌝ }
+    ensures { λ m. ⌜ Does (view (now (buf .entry)) at) (viewMade (now (buf .exit)) m) (setp k) (v ∷ []) ⌝ }
 {
     if k == 7 {
         Made { pos: at, value: v }
@@ -92,7 +92,7 @@ pub fn setp(buf: &mut [u8; 264], at: Pos, k: u8, v: u8) -> Made
 }
 
 pub fn b2u(buf: &mut [u8; 264], at: Pos, t: u32, f: u32, c: u8) -> Made
-    ensures { λ m. ⌜ Does (view (now (buf .entry)) at) (seen (now (buf .exit)) m) (b2u t f) (c ∷ []) ⌝ }
+    ensures { λ m. ⌜ Does (view (now (buf .entry)) at) (viewMade (now (buf .exit)) m) (b2u t f) (c ∷ []) ⌝ }
 {
     let a = u(buf, at, t);
     let b = u(buf, a.pos, f);
@@ -100,7 +100,7 @@ pub fn b2u(buf: &mut [u8; 264], at: Pos, t: u32, f: u32, c: u8) -> Made
 }
 
 pub fn cbuf_at(buf: &mut [u8; 264], at: Pos, s: u8, off: u8) -> Made
-    ensures { λ m. ⌜ Does (view (now (buf .entry)) at) (seen (now (buf .exit)) m) (cbufAt s) (off ∷ []) ⌝ }
+    ensures { λ m. ⌜ Does (view (now (buf .entry)) at) (viewMade (now (buf .exit)) m) (cbufAt s) (off ∷ []) ⌝ }
 {
     let var = cell(buf, at, 10, s);
     let c4 = u(buf, var.pos, 4);
@@ -124,7 +124,7 @@ pub fn cbuf_at(buf: &mut [u8; 264], at: Pos, s: u8, off: u8) -> Made
 
 // the word of an instruction's constant slot: the Rust's offset is four times its number
 pub fn cbuf_imm(buf: &mut [u8; 264], at: Pos, i: Insn) -> Made
-    ensures { λ m. ⌜ Does (view (now (buf .entry)) at) (seen (now (buf .exit)) m) (cbufImm (cslot i) (cword i)) [] ⌝ }
+    ensures { λ m. ⌜ Does (view (now (buf .entry)) at) (viewMade (now (buf .exit)) m) (cbufImm (cslot i) (cword i)) [] ⌝ }
 {
     let q = mark(at, i);
     let off = u(buf, q, cword(i) as u32 * 4);
@@ -132,7 +132,7 @@ pub fn cbuf_imm(buf: &mut [u8; 264], at: Pos, i: Insn) -> Made
 }
 
 pub fn src_b(buf: &mut [u8; 264], at: Pos, i: Insn) -> Made
-    ensures { λ m. ⌜ Does (view (now (buf .entry)) at) (seen (now (buf .exit)) m) (srcB i) [] ⌝ }
+    ensures { λ m. ⌜ Does (view (now (buf .entry)) at) (viewMade (now (buf .exit)) m) (srcB i) [] ⌝ }
 {
     if i.form == 0 {
         return r(buf, at, rb(i));
@@ -144,14 +144,14 @@ pub fn src_b(buf: &mut [u8; 264], at: Pos, i: Insn) -> Made
 }
 
 // The words b and c. Where a constant is named, `swap` says that it is c.
-pub fn src_bc(buf: &mut [u8; 264], at: Pos, i: Insn, swap: bool) -> MadeTwo
+pub fn src_bc(buf: &mut [u8; 264], at: Pos, i: Insn, swap: bool) -> FetchedBc
     ensures { λ m. ⌜ Fetches (view (now (buf .entry)) at) (view (now (buf .exit)) (m .pos)) i swap (m .b) (m .c) ⌝ }
 {
     if both(i.form == 1, swap) {
         let b = r(buf, at, rc(i));
         let c = cbuf_imm(buf, b.pos, i);
         let pos = c.pos;
-        MadeTwo {
+        FetchedBc {
             pos: pos,
             b: b.value,
             c: c.value,
@@ -160,7 +160,7 @@ pub fn src_bc(buf: &mut [u8; 264], at: Pos, i: Insn, swap: bool) -> MadeTwo
         let b = src_b(buf, at, i);
         let c = r(buf, b.pos, rc(i));
         let pos = c.pos;
-        MadeTwo {
+        FetchedBc {
             pos: pos,
             b: b.value,
             c: c.value,
@@ -169,7 +169,7 @@ pub fn src_bc(buf: &mut [u8; 264], at: Pos, i: Insn, swap: bool) -> MadeTwo
 }
 
 pub fn inot(buf: &mut [u8; 264], at: Pos, on: bool, v: u8) -> Made
-    ensures { λ m. ⌜ Does (view (now (buf .entry)) at) (seen (now (buf .exit)) m) (inot on) (v ∷ []) ⌝ }
+    ensures { λ m. ⌜ Does (view (now (buf .entry)) at) (viewMade (now (buf .exit)) m) (inot on) (v ∷ []) ⌝ }
 {
     if on {
         one(buf, at, 20, v)
@@ -179,7 +179,7 @@ pub fn inot(buf: &mut [u8; 264], at: Pos, on: bool, v: u8) -> Made
 }
 
 pub fn ineg(buf: &mut [u8; 264], at: Pos, on: bool, v: u8) -> Made
-    ensures { λ m. ⌜ Does (view (now (buf .entry)) at) (seen (now (buf .exit)) m) (ineg on) (v ∷ []) ⌝ }
+    ensures { λ m. ⌜ Does (view (now (buf .entry)) at) (viewMade (now (buf .exit)) m) (ineg on) (v ∷ []) ⌝ }
 {
     if on {
         let zero = u(buf, at, 0);
@@ -190,14 +190,14 @@ pub fn ineg(buf: &mut [u8; 264], at: Pos, on: bool, v: u8) -> Made
 }
 
 pub fn carry_flag(buf: &mut [u8; 264], at: Pos) -> Made
-    ensures { λ m. ⌜ Does (view (now (buf .entry)) at) (seen (now (buf .exit)) m) carryFlag [] ⌝ }
+    ensures { λ m. ⌜ Does (view (now (buf .entry)) at) (viewMade (now (buf .exit)) m) carryFlag [] ⌝ }
 {
     let c = cell(buf, at, 6, 2);
     b2u(buf, c.pos, 1, 0, c.value)
 }
 
 pub fn signed_overflow(buf: &mut [u8; 264], at: Pos, a: u8, b: u8, v: u8) -> Made
-    ensures { λ m. ⌜ Does (view (now (buf .entry)) at) (seen (now (buf .exit)) m) signedOverflow (a ∷ b ∷ v ∷ []) ⌝ }
+    ensures { λ m. ⌜ Does (view (now (buf .entry)) at) (viewMade (now (buf .exit)) m) signedOverflow (a ∷ b ∷ v ∷ []) ⌝ }
 {
     let zero = u(buf, at, 0);
     let xa = two(buf, zero.pos, 48, a, v);
@@ -220,7 +220,7 @@ pub struct Carried {
 
 // Whether a word is given.
 fn is_given(c: Carry) -> bool
-    ensures { λ r. ⌜ r ≡ given c ⌝ }
+    ensures { λ r. ⌜ r ≡ isGiven c ⌝ }
 {
     match c {
         Carry::None => false,
@@ -239,7 +239,7 @@ fn or_else(c: Carry, f: u8) -> u8
 }
 
 pub fn set_cc(buf: &mut [u8; 264], at: Pos, v: u8, carry: Carry, overflow: Carry) -> Made
-    ensures { λ m. ⌜ Does (view (now (buf .entry)) at) (seen (now (buf .exit)) m) (setCc (given carry) (given overflow)) (v ∷ words carry ++ words overflow) ⌝ }
+    ensures { λ m. ⌜ Does (view (now (buf .entry)) at) (viewMade (now (buf .exit)) m) (setCc (isGiven carry) (isGiven overflow)) (v ∷ words carry ++ words overflow) ⌝ }
 {
     let zero = u(buf, at, 0);
     let z = two(buf, zero.pos, 60, v, zero.value);
@@ -254,7 +254,7 @@ pub fn set_cc(buf: &mut [u8; 264], at: Pos, v: u8, carry: Carry, overflow: Carry
 
 // where it is asked for, with neither
 pub fn set_cc_if(buf: &mut [u8; 264], at: Pos, on: bool, v: u8) -> Made
-    ensures { λ m. ⌜ Does (view (now (buf .entry)) at) (seen (now (buf .exit)) m) (setCcIf on) (v ∷ []) ⌝ }
+    ensures { λ m. ⌜ Does (view (now (buf .entry)) at) (viewMade (now (buf .exit)) m) (setCcIf on) (v ∷ []) ⌝ }
 {
     if on {
         set_cc(buf, at, v, Carry::None, Carry::None)
@@ -265,7 +265,7 @@ pub fn set_cc_if(buf: &mut [u8; 264], at: Pos, on: bool, v: u8) -> Made
 
 // the flags of a sum, where they are asked for
 pub fn set_sum_cc(buf: &mut [u8; 264], at: Pos, cc: bool, a: u8, b: u8, v: u8, c: u8) -> Made
-    ensures { λ m. ⌜ Does (view (now (buf .entry)) at) (seen (now (buf .exit)) m) (setSumCc cc) (a ∷ b ∷ v ∷ c ∷ []) ⌝ }
+    ensures { λ m. ⌜ Does (view (now (buf .entry)) at) (viewMade (now (buf .exit)) m) (setSumCc cc) (a ∷ b ∷ v ∷ c ∷ []) ⌝ }
 {
     if cc {
         let o = signed_overflow(buf, at, a, b, v);
@@ -308,7 +308,7 @@ fn add_carry(buf: &mut [u8; 264], at: Pos, v: u8, carry: u8, carry_in: Carry) ->
 
 // The sum alone where there is no carry in and no flag is asked for.
 pub fn add_with_flags(buf: &mut [u8; 264], at: Pos, a: u8, b: u8, carry_in: Carry, cc: bool) -> Made
-    ensures { λ m. ⌜ Does (view (now (buf .entry)) at) (seen (now (buf .exit)) m) (addWithFlags (given «carry_in») cc) (a ∷ b ∷ words «carry_in») ⌝ }
+    ensures { λ m. ⌜ Does (view (now (buf .entry)) at) (viewMade (now (buf .exit)) m) (addWithFlags (isGiven «carry_in») cc) (a ∷ b ∷ words «carry_in») ⌝ }
 {
     let v = two(buf, at, 40, a, b);
     if either(is_given(carry_in), cc) {
@@ -321,7 +321,7 @@ pub fn add_with_flags(buf: &mut [u8; 264], at: Pos, a: u8, b: u8, carry_in: Carr
 }
 
 // An entry's value as the carry.
-fn carry_of(m: Made) -> Carried
+fn carry_word(m: Made) -> Carried
     ensures { λ r. ⌜ r ≡ record { pos = m .pos; carry = Carry.Word (m .value) } ⌝ }
 {
     let pos = m.pos;
@@ -336,10 +336,10 @@ pub fn sum_carry(buf: &mut [u8; 264], at: Pos, x: bool, one: bool) -> Carried
     ensures { λ m. ⌜ Carries (view (now (buf .entry)) at) (view (now (buf .exit)) (m .pos)) x one (m .carry) ⌝ }
 {
     if x {
-        return carry_of(carry_flag(buf, at));
+        return carry_word(carry_flag(buf, at));
     }
     if one {
-        return carry_of(u(buf, at, 1));
+        return carry_word(u(buf, at, 1));
     }
     Carried {
         pos: at,
@@ -348,7 +348,7 @@ pub fn sum_carry(buf: &mut [u8; 264], at: Pos, x: bool, one: bool) -> Carried
 }
 
 pub fn saturate_add(buf: &mut [u8; 264], at: Pos, on: bool, a: u8, b: u8, v: u8) -> Made
-    ensures { λ m. ⌜ Does (view (now (buf .entry)) at) (seen (now (buf .exit)) m) (saturateAdd on) (a ∷ b ∷ v ∷ []) ⌝ }
+    ensures { λ m. ⌜ Does (view (now (buf .entry)) at) (viewMade (now (buf .exit)) m) (saturateAdd on) (a ∷ b ∷ v ∷ []) ⌝ }
 {
     if on {
         let overflow = signed_overflow(buf, at, a, b, v);
@@ -362,7 +362,7 @@ pub fn saturate_add(buf: &mut [u8; 264], at: Pos, on: bool, a: u8, b: u8, v: u8)
 }
 
 pub fn bool_op(buf: &mut [u8; 264], at: Pos, o: u8, a: u8, b: u8) -> Made
-    ensures { λ m. ⌜ Does (view (now (buf .entry)) at) (seen (now (buf .exit)) m) (boolOp o) (a ∷ b ∷ []) ⌝ }
+    ensures { λ m. ⌜ Does (view (now (buf .entry)) at) (viewMade (now (buf .exit)) m) (boolOp o) (a ∷ b ∷ []) ⌝ }
 {
     match o {
         0 => two(buf, at, 81, a, b),
@@ -372,7 +372,7 @@ pub fn bool_op(buf: &mut [u8; 264], at: Pos, o: u8, a: u8, b: u8) -> Made
 }
 
 pub fn less_than(buf: &mut [u8; 264], at: Pos, signed: bool, a: u8, b: u8) -> Made
-    ensures { λ m. ⌜ Does (view (now (buf .entry)) at) (seen (now (buf .exit)) m) (lessThan signed) (a ∷ b ∷ []) ⌝ }
+    ensures { λ m. ⌜ Does (view (now (buf .entry)) at) (viewMade (now (buf .exit)) m) (lessThan signed) (a ∷ b ∷ []) ⌝ }
 {
     if signed {
         two(buf, at, 66, a, b)
@@ -382,7 +382,7 @@ pub fn less_than(buf: &mut [u8; 264], at: Pos, signed: bool, a: u8, b: u8) -> Ma
 }
 
 pub fn less_than_equal(buf: &mut [u8; 264], at: Pos, signed: bool, a: u8, b: u8) -> Made
-    ensures { λ m. ⌜ Does (view (now (buf .entry)) at) (seen (now (buf .exit)) m) (lessThanEqual signed) (a ∷ b ∷ []) ⌝ }
+    ensures { λ m. ⌜ Does (view (now (buf .entry)) at) (viewMade (now (buf .exit)) m) (lessThanEqual signed) (a ∷ b ∷ []) ⌝ }
 {
     if signed {
         two(buf, at, 67, a, b)
@@ -392,7 +392,7 @@ pub fn less_than_equal(buf: &mut [u8; 264], at: Pos, signed: bool, a: u8, b: u8)
 }
 
 pub fn greater_than(buf: &mut [u8; 264], at: Pos, signed: bool, a: u8, b: u8) -> Made
-    ensures { λ m. ⌜ Does (view (now (buf .entry)) at) (seen (now (buf .exit)) m) (greaterThan signed) (a ∷ b ∷ []) ⌝ }
+    ensures { λ m. ⌜ Does (view (now (buf .entry)) at) (viewMade (now (buf .exit)) m) (greaterThan signed) (a ∷ b ∷ []) ⌝ }
 {
     if signed {
         two(buf, at, 68, a, b)
@@ -402,7 +402,7 @@ pub fn greater_than(buf: &mut [u8; 264], at: Pos, signed: bool, a: u8, b: u8) ->
 }
 
 pub fn greater_than_equal(buf: &mut [u8; 264], at: Pos, signed: bool, a: u8, b: u8) -> Made
-    ensures { λ m. ⌜ Does (view (now (buf .entry)) at) (seen (now (buf .exit)) m) (greaterThanEqual signed) (a ∷ b ∷ []) ⌝ }
+    ensures { λ m. ⌜ Does (view (now (buf .entry)) at) (viewMade (now (buf .exit)) m) (greaterThanEqual signed) (a ∷ b ∷ []) ⌝ }
 {
     if signed {
         two(buf, at, 69, a, b)
@@ -412,7 +412,7 @@ pub fn greater_than_equal(buf: &mut [u8; 264], at: Pos, signed: bool, a: u8, b: 
 }
 
 pub fn int_cmp(buf: &mut [u8; 264], at: Pos, o: u8, signed: bool, a: u8, b: u8) -> Made
-    ensures { λ m. ⌜ Does (view (now (buf .entry)) at) (seen (now (buf .exit)) m) (intCmp o signed) (a ∷ b ∷ []) ⌝ }
+    ensures { λ m. ⌜ Does (view (now (buf .entry)) at) (viewMade (now (buf .exit)) m) (intCmp o signed) (a ∷ b ∷ []) ⌝ }
 {
     match o {
         0 => truth(buf, at, 3),
@@ -428,7 +428,7 @@ pub fn int_cmp(buf: &mut [u8; 264], at: Pos, o: u8, signed: bool, a: u8, b: u8) 
 
 // the cases of `cc_test` that ask for single flags, of z, s, c and o
 pub fn cc_flags(buf: &mut [u8; 264], at: Pos, t: u8, z: u8, s: u8, c: u8, o: u8) -> Made
-    ensures { λ m. ⌜ Does (view (now (buf .entry)) at) (seen (now (buf .exit)) m) (ccFlags t) (z ∷ s ∷ c ∷ o ∷ []) ⌝ }
+    ensures { λ m. ⌜ Does (view (now (buf .entry)) at) (viewMade (now (buf .exit)) m) (ccFlags t) (z ∷ s ∷ c ∷ o ∷ []) ⌝ }
 {
     if t == 7 {
         return one(buf, at, 80, o);
@@ -462,7 +462,7 @@ pub fn cc_flags(buf: &mut [u8; 264], at: Pos, t: u8, z: u8, s: u8, c: u8, o: u8)
 
 // all of them, of z, s, c, o and lt: first those that compare
 pub fn cc_case(buf: &mut [u8; 264], at: Pos, t: u8, z: u8, s: u8, c: u8, o: u8, lt: u8) -> Made
-    ensures { λ m. ⌜ Does (view (now (buf .entry)) at) (seen (now (buf .exit)) m) (ccCase t) (z ∷ s ∷ c ∷ o ∷ lt ∷ []) ⌝ }
+    ensures { λ m. ⌜ Does (view (now (buf .entry)) at) (viewMade (now (buf .exit)) m) (ccCase t) (z ∷ s ∷ c ∷ o ∷ lt ∷ []) ⌝ }
 {
     if either(t == 0, t == 16) {
         return truth(buf, at, 3);
@@ -490,7 +490,7 @@ pub fn cc_case(buf: &mut [u8; 264], at: Pos, t: u8, z: u8, s: u8, c: u8, o: u8, 
 }
 
 pub fn cc_test(buf: &mut [u8; 264], at: Pos, t: u8) -> Made
-    ensures { λ m. ⌜ Does (view (now (buf .entry)) at) (seen (now (buf .exit)) m) (ccTest t) [] ⌝ }
+    ensures { λ m. ⌜ Does (view (now (buf .entry)) at) (viewMade (now (buf .exit)) m) (ccTest t) [] ⌝ }
 {
     let z = cell(buf, at, 6, 0);
     let s = cell(buf, z.pos, 6, 1);
@@ -501,7 +501,7 @@ pub fn cc_test(buf: &mut [u8; 264], at: Pos, t: u8) -> Made
 }
 
 pub fn shifted(buf: &mut [u8; 264], at: Pos, left: bool, signed: bool, a: u8, n: u8) -> Made
-    ensures { λ m. ⌜ Does (view (now (buf .entry)) at) (seen (now (buf .exit)) m) (shifted left signed) (a ∷ n ∷ []) ⌝ }
+    ensures { λ m. ⌜ Does (view (now (buf .entry)) at) (viewMade (now (buf .exit)) m) (shifted left signed) (a ∷ n ∷ []) ⌝ }
 {
     if left {
         return two(buf, at, 43, a, n);
@@ -512,9 +512,9 @@ pub fn shifted(buf: &mut [u8; 264], at: Pos, left: bool, signed: bool, a: u8, n:
     two(buf, at, 44, a, n)
 }
 
-// what is left behind a count of 32 or more
+// what is left of a shift by 32 or more
 pub fn shift_fill(buf: &mut [u8; 264], at: Pos, sign: bool, a: u8) -> Made
-    ensures { λ m. ⌜ Does (view (now (buf .entry)) at) (seen (now (buf .exit)) m) (shiftFill sign) (a ∷ []) ⌝ }
+    ensures { λ m. ⌜ Does (view (now (buf .entry)) at) (viewMade (now (buf .exit)) m) (shiftFill sign) (a ∷ []) ⌝ }
 {
     if sign {
         let ai = one(buf, at, 23, a);
@@ -527,7 +527,7 @@ pub fn shift_fill(buf: &mut [u8; 264], at: Pos, sign: bool, a: u8) -> Made
 }
 
 pub fn shift_end(buf: &mut [u8; 264], at: Pos, sign: bool, wrap: bool, a: u8, b: u8, v: u8) -> Made
-    ensures { λ m. ⌜ Does (view (now (buf .entry)) at) (seen (now (buf .exit)) m) (shiftEnd sign wrap) (a ∷ b ∷ v ∷ []) ⌝ }
+    ensures { λ m. ⌜ Does (view (now (buf .entry)) at) (viewMade (now (buf .exit)) m) (shiftEnd sign wrap) (a ∷ b ∷ v ∷ []) ⌝ }
 {
     if wrap {
         Made { pos: at, value: v }
@@ -548,7 +548,7 @@ pub fn shift(
     a: u8,
     b: u8,
 ) -> Made
-    ensures { λ m. ⌜ Does (view (now (buf .entry)) at) (seen (now (buf .exit)) m) (shift left signed wrap) (a ∷ b ∷ []) ⌝ }
+    ensures { λ m. ⌜ Does (view (now (buf .entry)) at) (viewMade (now (buf .exit)) m) (shift left signed wrap) (a ∷ b ∷ []) ⌝ }
 {
     let c31 = u(buf, at, 31);
     let amount = two(buf, c31.pos, 46, b, c31.value);
@@ -558,7 +558,7 @@ pub fn shift(
 
 // one row of the table of `lop3`
 pub fn lop3_row(buf: &mut [u8; 264], at: Pos, on: bool, acc: u8, x: u8, y: u8, z: u8) -> Made
-    ensures { λ m. ⌜ Does (view (now (buf .entry)) at) (seen (now (buf .exit)) m) (lop3Row on) (acc ∷ x ∷ y ∷ z ∷ []) ⌝ }
+    ensures { λ m. ⌜ Does (view (now (buf .entry)) at) (viewMade (now (buf .exit)) m) (lop3Row on) (acc ∷ x ∷ y ∷ z ∷ []) ⌝ }
 {
     if on {
         let xy = two(buf, at, 46, x, y);
@@ -585,7 +585,7 @@ pub fn lop3_rows(
     nc: u8,
 ) -> Made
     requires { ⌜ k < 8 ⌝ }
-    ensures { λ m. ⌜ Does (view (now (buf .entry)) at) (seen (now (buf .exit)) m) (lop3Rows lut k) (acc ∷ x ∷ y ∷ c ∷ nc ∷ []) ⌝ }
+    ensures { λ m. ⌜ Does (view (now (buf .entry)) at) (viewMade (now (buf .exit)) m) (lop3Rows lut k) (acc ∷ x ∷ y ∷ c ∷ nc ∷ []) ⌝ }
 {
     let acc = lop3_row(buf, at, table_bit(lut as u32, k), acc, x, y, nc);
     lop3_row(
@@ -600,7 +600,7 @@ pub fn lop3_rows(
 }
 
 pub fn lop3(buf: &mut [u8; 264], at: Pos, lut: u8, a: u8, b: u8, c: u8) -> Made
-    ensures { λ m. ⌜ Does (view (now (buf .entry)) at) (seen (now (buf .exit)) m) (lop3 lut) (a ∷ b ∷ c ∷ []) ⌝ }
+    ensures { λ m. ⌜ Does (view (now (buf .entry)) at) (viewMade (now (buf .exit)) m) (lop3 lut) (a ∷ b ∷ c ∷ []) ⌝ }
 {
     let acc = u(buf, at, 0);
     let na = one(buf, acc.pos, 20, a);
@@ -623,7 +623,7 @@ pub fn lop3(buf: &mut [u8; 264], at: Pos, lut: u8, a: u8, b: u8, c: u8) -> Made
 }
 
 pub fn extract(buf: &mut [u8; 264], at: Pos, signed: bool, v: u8, off: u8, len: u8) -> Made
-    ensures { λ m. ⌜ Does (view (now (buf .entry)) at) (seen (now (buf .exit)) m) (extract signed) (v ∷ off ∷ len ∷ []) ⌝ }
+    ensures { λ m. ⌜ Does (view (now (buf .entry)) at) (viewMade (now (buf .exit)) m) (extract signed) (v ∷ off ∷ len ∷ []) ⌝ }
 {
     if signed {
         let vi = one(buf, at, 23, v);
@@ -636,7 +636,7 @@ pub fn extract(buf: &mut [u8; 264], at: Pos, signed: bool, v: u8, off: u8, len: 
 
 // len bits from place pos on: `half16`, `video_operand` and `int_source` end like this
 pub fn field(buf: &mut [u8; 264], at: Pos, pos: u32, len: u32, signed: bool, v: u8) -> Made
-    ensures { λ m. ⌜ Does (view (now (buf .entry)) at) (seen (now (buf .exit)) m) (field pos len signed) (v ∷ []) ⌝ }
+    ensures { λ m. ⌜ Does (view (now (buf .entry)) at) (viewMade (now (buf .exit)) m) (field pos len signed) (v ∷ []) ⌝ }
 {
     let off = u(buf, at, pos);
     let l = u(buf, off.pos, len);
@@ -644,13 +644,13 @@ pub fn field(buf: &mut [u8; 264], at: Pos, pos: u32, len: u32, signed: bool, v: 
 }
 
 pub fn half16(buf: &mut [u8; 264], at: Pos, high: bool, signed: bool, v: u8) -> Made
-    ensures { λ m. ⌜ Does (view (now (buf .entry)) at) (seen (now (buf .exit)) m) (half16 high signed) (v ∷ []) ⌝ }
+    ensures { λ m. ⌜ Does (view (now (buf .entry)) at) (viewMade (now (buf .exit)) m) (half16 high signed) (v ∷ []) ⌝ }
 {
     field(buf, at, pick(high, 16, 0), 16, signed, v)
 }
 
 pub fn half_select(buf: &mut [u8; 264], at: Pos, sel: u8, v: u8) -> Made
-    ensures { λ m. ⌜ Does (view (now (buf .entry)) at) (seen (now (buf .exit)) m) (halfSelect sel) (v ∷ []) ⌝ }
+    ensures { λ m. ⌜ Does (view (now (buf .entry)) at) (viewMade (now (buf .exit)) m) (halfSelect sel) (v ∷ []) ⌝ }
 {
     if sel == 1 {
         return half16(buf, at, false, false, v);
@@ -662,7 +662,7 @@ pub fn half_select(buf: &mut [u8; 264], at: Pos, sel: u8, v: u8) -> Made
 }
 
 pub fn video_operand(buf: &mut [u8; 264], at: Pos, sel: u8, signed: bool, v: u8) -> Made
-    ensures { λ m. ⌜ Does (view (now (buf .entry)) at) (seen (now (buf .exit)) m) (videoOperand sel signed) (v ∷ []) ⌝ }
+    ensures { λ m. ⌜ Does (view (now (buf .entry)) at) (viewMade (now (buf .exit)) m) (videoOperand sel signed) (v ∷ []) ⌝ }
 {
     if sel < 4 {
         return field(buf, at, sel as u32 * 8, 8, signed, v);
@@ -674,7 +674,7 @@ pub fn video_operand(buf: &mut [u8; 264], at: Pos, sel: u8, signed: bool, v: u8)
 }
 
 pub fn int_source(buf: &mut [u8; 264], at: Pos, size: u8, signed: bool, byte: u8, v: u8) -> Made
-    ensures { λ m. ⌜ Does (view (now (buf .entry)) at) (seen (now (buf .exit)) m) (intSource size signed byte) (v ∷ []) ⌝ }
+    ensures { λ m. ⌜ Does (view (now (buf .entry)) at) (viewMade (now (buf .exit)) m) (intSource size signed byte) (v ∷ []) ⌝ }
 {
     if size == 0 {
         return field(buf, at, byte as u32 * 8, 8, signed, v);
@@ -686,7 +686,7 @@ pub fn int_source(buf: &mut [u8; 264], at: Pos, size: u8, signed: bool, byte: u8
 }
 
 pub fn clamp_high(buf: &mut [u8; 264], at: Pos, on: bool, x: u8, hi: u8) -> Made
-    ensures { λ m. ⌜ Does (view (now (buf .entry)) at) (seen (now (buf .exit)) m) (clampHigh on) (x ∷ hi ∷ []) ⌝ }
+    ensures { λ m. ⌜ Does (view (now (buf .entry)) at) (viewMade (now (buf .exit)) m) (clampHigh on) (x ∷ hi ∷ []) ⌝ }
 {
     if on {
         let hi = one(buf, at, 23, hi);
@@ -705,7 +705,7 @@ pub fn saturate_by(
     v: u8,
     hi: u8,
 ) -> Made
-    ensures { λ m. ⌜ Does (view (now (buf .entry)) at) (seen (now (buf .exit)) m) (saturateBy from to size) (v ∷ hi ∷ []) ⌝ }
+    ensures { λ m. ⌜ Does (view (now (buf .entry)) at) (viewMade (now (buf .exit)) m) (saturateBy from to size) (v ∷ hi ∷ []) ⌝ }
 {
     if from {
         let lo = u(buf, at, lowest(to, size));
@@ -720,7 +720,7 @@ pub fn saturate_by(
 }
 
 pub fn saturate_int(buf: &mut [u8; 264], at: Pos, from: bool, to: bool, size: u8, v: u8) -> Made
-    ensures { λ m. ⌜ Does (view (now (buf .entry)) at) (seen (now (buf .exit)) m) (saturateInt from to size) (v ∷ []) ⌝ }
+    ensures { λ m. ⌜ Does (view (now (buf .entry)) at) (viewMade (now (buf .exit)) m) (saturateInt from to size) (v ∷ []) ⌝ }
 {
     let hi = u(buf, at, highest(to, size));
     saturate_by(buf, hi.pos, from, to, size, v, hi.value)

@@ -4,7 +4,7 @@ ghost use mathlib.Core.Bool.{cond, _&&_, _||_};
 ghost use Prim.Native.Nat.{_<_, _≤_};
 ghost use lib.Dec.{eqb};
 ghost use Rattle.translation.specs.Helpers.{tableBit, highest, lowest};
-ghost use Rattle.translation.specs.Arms.{truthWord, iadd3Count, xmadInC, xmadSwaps, icmpSwaps, bfiSwaps, xmadHigh, xmadSigned, xmadPsl, xmadMrg, xmadMode, lop3Table, vmnmxImm, vmnmxSigned, maskOf, asked, cellBit, p2rKeep, shfLeft, shfPlain, leaReg, leaCbuf, leaHigh, leaShift, leaNegates};
+ghost use Rattle.translation.specs.Arms.{truthWord, iadd3Count, xmadInC, xmadSwaps, icmpSwaps, bfiSwaps, xmadHigh, xmadSigned, xmadPsl, xmadMrg, xmadMode, lop3Table, vmnmxImm, vmnmxSigned, predicateMask, asked, cellBit, p2rKeep, shfLeft, shfPlain, leaReg, leaCbuf, leaHigh, leaShift, leaNegates};
 use crate::insn::Insn;
 use crate::insn::bit;
 use crate::insn::bits;
@@ -167,8 +167,8 @@ pub fn lowest(signed: bool, size: u8) -> u32
     pick(signed, 0x8000_0000, 0)
 }
 
-pub fn mask_of(i: Insn) -> u32
-    ensures { λ r. ⌜ r ≡ maskOf i ⌝ }
+pub fn predicate_mask(i: Insn) -> u32
+    ensures { λ r. ⌜ r ≡ predicateMask i ⌝ }
 {
     if i.form == 2 { simm20(i) } else { 127 }
 }
@@ -177,7 +177,7 @@ pub fn asked(i: Insn, k: u8) -> bool
     requires { ⌜ k < 8 ⌝ }
     ensures { λ r. ⌜ r ≡ asked i k ⌝ }
 {
-    both(table_bit(mask_of(i), k), either(k < 4, !bit(i, 40)))
+    both(table_bit(predicate_mask(i), k), either(k < 4, !bit(i, 40)))
 }
 
 pub fn cell_bit(i: Insn, k: u8) -> u32
@@ -190,7 +190,7 @@ pub fn cell_bit(i: Insn, k: u8) -> u32
 pub fn p2r_keep(i: Insn) -> u32
     ensures { λ r. ⌜ r ≡ p2rKeep i ⌝ }
 {
-    !((mask_of(i) % 256) << (bits(i, 41, 2) as u32 * 8))
+    !((predicate_mask(i) % 256) << (bits(i, 41, 2) as u32 * 8))
 }
 
 pub fn shf_left(i: Insn) -> bool

@@ -4,7 +4,7 @@ ghost use mathlib.Core.Path.{_≡_};
 ghost use mathlib.Core.List.{List};
 ghost use Prim.Native.Nat.{ℕ, _+_, _*_, _%_};
 ghost use Rattle.translation.specs.Insn.{cslot, cword};
-ghost use Rattle.translation.specs.Emit.{view, seen, Makes, Writes, Raises};
+ghost use Rattle.translation.specs.Emit.{view, viewMade, Makes, Writes, Raises};
 use crate::insn::Insn;
 use crate::insn::cslot;
 use crate::insn::cword;
@@ -27,20 +27,20 @@ pub struct Pos {
     pub slot: u8,
 }
 
-// The position behind an entry or a helper, and the number of its value.
+// The position after an entry or a helper, and the number of its value.
 pub struct Made {
     pub pos: Pos,
     pub value: u8,
 }
 
-// The position behind two values, and their numbers.
-pub struct MadeTwo {
+// The position after the words b and c are fetched, and their numbers.
+pub struct FetchedBc {
     pub pos: Pos,
     pub b: u8,
     pub c: u8,
 }
 
-// Behind n bytes.
+// After n bytes.
 fn skip(p: Pos, n: u8) -> Pos
     ensures { λ r. ⌜ r ≡ record { words = p .words; at = (p .at + n) % 256; values = p .values; slot = p .slot } ⌝ }
 {
@@ -52,7 +52,7 @@ fn skip(p: Pos, n: u8) -> Pos
     }
 }
 
-// Behind n bytes that make a value.
+// After n bytes that make a value.
 fn next(p: Pos, n: u8) -> Made
     ensures { λ r. ⌜ r ≡ record { pos = record { words = p .words; at = (p .at + n) % 256; values = (p .values + 1) % 256; slot = p .slot }; value = p .values } ⌝ }
 {
@@ -81,7 +81,7 @@ pub fn mark(p: Pos, i: Insn) -> Pos
 
 // A word constant.
 pub fn u(buf: &mut [u8; 264], p: Pos, w: u32) -> Made
-    ensures { λ r. ⌜ Makes (view (now (buf .entry)) p) (seen (now (buf .exit)) r) (Entry.Word w) ⌝ }
+    ensures { λ r. ⌜ Makes (view (now (buf .entry)) p) (viewMade (now (buf .exit)) r) (Entry.Word w) ⌝ }
 {
     let at = p.at as usize;
     write_word(buf, at, w);
@@ -90,7 +90,7 @@ pub fn u(buf: &mut [u8; 264], p: Pos, w: u32) -> Made
 
 // True, false.
 pub fn truth(buf: &mut [u8; 264], p: Pos, k: u8) -> Made
-    ensures { λ r. ⌜ Makes (view (now (buf .entry)) p) (seen (now (buf .exit)) r) (Entry.Bare k) ⌝ }
+    ensures { λ r. ⌜ Makes (view (now (buf .entry)) p) (viewMade (now (buf .exit)) r) (Entry.Bare k) ⌝ }
 {
     let at = p.at as usize;
     write_bare(buf, at, k);
@@ -99,7 +99,7 @@ pub fn truth(buf: &mut [u8; 264], p: Pos, k: u8) -> Made
 
 // A load of a cell, a slot.
 pub fn cell(buf: &mut [u8; 264], p: Pos, k: u8, n: u8) -> Made
-    ensures { λ r. ⌜ Makes (view (now (buf .entry)) p) (seen (now (buf .exit)) r) (Entry.Cell k n) ⌝ }
+    ensures { λ r. ⌜ Makes (view (now (buf .entry)) p) (viewMade (now (buf .exit)) r) (Entry.Cell k n) ⌝ }
 {
     let at = p.at as usize;
     write_cell(buf, at, k, n);
@@ -107,7 +107,7 @@ pub fn cell(buf: &mut [u8; 264], p: Pos, k: u8, n: u8) -> Made
 }
 
 pub fn one(buf: &mut [u8; 264], p: Pos, k: u8, a: u8) -> Made
-    ensures { λ r. ⌜ Makes (view (now (buf .entry)) p) (seen (now (buf .exit)) r) (Entry.One k a) ⌝ }
+    ensures { λ r. ⌜ Makes (view (now (buf .entry)) p) (viewMade (now (buf .exit)) r) (Entry.One k a) ⌝ }
 {
     let at = p.at as usize;
     write_one(buf, at, k, a as u16);
@@ -115,7 +115,7 @@ pub fn one(buf: &mut [u8; 264], p: Pos, k: u8, a: u8) -> Made
 }
 
 pub fn two(buf: &mut [u8; 264], p: Pos, k: u8, a: u8, b: u8) -> Made
-    ensures { λ r. ⌜ Makes (view (now (buf .entry)) p) (seen (now (buf .exit)) r) (Entry.Two k a b) ⌝ }
+    ensures { λ r. ⌜ Makes (view (now (buf .entry)) p) (viewMade (now (buf .exit)) r) (Entry.Two k a b) ⌝ }
 {
     let at = p.at as usize;
     write_two(buf, at, k, a as u16, b as u16);
@@ -123,7 +123,7 @@ pub fn two(buf: &mut [u8; 264], p: Pos, k: u8, a: u8, b: u8) -> Made
 }
 
 pub fn three(buf: &mut [u8; 264], p: Pos, k: u8, a: u8, b: u8, c: u8) -> Made
-    ensures { λ r. ⌜ Makes (view (now (buf .entry)) p) (seen (now (buf .exit)) r) (Entry.Three k a b c) ⌝ }
+    ensures { λ r. ⌜ Makes (view (now (buf .entry)) p) (viewMade (now (buf .exit)) r) (Entry.Three k a b c) ⌝ }
 {
     let at = p.at as usize;
     write_three(buf, at, k, a as u16, b as u16, c as u16);
@@ -131,7 +131,7 @@ pub fn three(buf: &mut [u8; 264], p: Pos, k: u8, a: u8, b: u8, c: u8) -> Made
 }
 
 pub fn four(buf: &mut [u8; 264], p: Pos, k: u8, a: u8, b: u8, c: u8, d: u8) -> Made
-    ensures { λ r. ⌜ Makes (view (now (buf .entry)) p) (seen (now (buf .exit)) r) (Entry.Four k a b c d) ⌝ }
+    ensures { λ r. ⌜ Makes (view (now (buf .entry)) p) (viewMade (now (buf .exit)) r) (Entry.Four k a b c d) ⌝ }
 {
     let at = p.at as usize;
     write_four(buf, at, k, a as u16, b as u16, c as u16, d as u16);

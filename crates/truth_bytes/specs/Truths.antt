@@ -10,8 +10,8 @@ abbrev pub isSet : ℕ → Bool
 isSet b = not (eqb b 0)
 
 -- and a truth is answered as 1 or 0
-abbrev pub bit : Bool → ℕ
-bit t = cond t 1 0
+abbrev pub truthByte : Bool → ℕ
+truthByte t = cond t 1 0
 
 -- the n truths from a place of a list of bytes on
 abbrev pub truthsAt : ℕ → ℕ → List ℕ → List Bool

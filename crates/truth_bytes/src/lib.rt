@@ -4,7 +4,7 @@ ghost use mathlib.Core.List.{map};
 ghost use Prim.Native.Nat.{_+_, _≤_};
 ghost use lib.ListN.{length};
 ghost use lib.Seq.{sets};
-ghost use Rattle.truth_bytes.specs.Truths.{bit, truthsAt};
+ghost use Rattle.truth_bytes.specs.Truths.{truthByte, truthsAt};
 
 // The bytes from a place on, to truths.
 pub fn read_truths(from: &[u8], at: usize, to: &mut [bool])
@@ -18,8 +18,8 @@ pub fn read_truths(from: &[u8], at: usize, to: &mut [bool])
     }
 }
 
-fn bit(t: bool) -> u8
-    ensures { λ r. ⌜ r ≡ bit t ⌝ }
+fn truth_byte(t: bool) -> u8
+    ensures { λ r. ⌜ r ≡ truthByte t ⌝ }
 {
     if t { 1 } else { 0 }
 }
@@ -27,11 +27,11 @@ fn bit(t: bool) -> u8
 // Truths, to the bytes from a place on.
 pub fn write_truths(from: &[bool], to: &mut [u8], at: usize)
     requires { ⌜ at + length (now from) ≤ length (now to) ⌝ }
-    ensures { λ _. ⌜ now (to .exit) ≡ sets (now (to .entry)) at (map bit (now (from .entry))) ⌝ }
+    ensures { λ _. ⌜ now (to .exit) ≡ sets (now (to .entry)) at (map truthByte (now (from .entry))) ⌝ }
 {
     let mut i = 0;
     while i < from.len() {
-        to[at + i] = bit(from[i]);
+        to[at + i] = truth_byte(from[i]);
         i += 1;
     }
 }

@@ -8,7 +8,7 @@ use lib.Seq.{take-all, length-take-le, drop-drop, drop-length}
 use Rattle.translation.specs.Strip.{Answer, translation}
 use Rattle.translation.proofs.Shape.{fits}
 use Rattle.works.specs.declared.room.Turn.{Turn}
-use Rattle.works.specs.Room.{Room, behind, step, upTo, seen}
+use Rattle.works.specs.Room.{Room, roomAfter, step, upTo, roomView}
 
 -- the rest of a room, as code names it, and the room with the rest put back
 rest : (room : List ℕ) (n : ℕ) → take (length room - n) (drop n room) ≡ drop n room
@@ -45,11 +45,11 @@ module _ {a : Answer} (l room : List ℕ) (t : Turn) (h : t .used ≤ length roo
       ∙ (let k = length-take-le (t .used) room h in let d = length-drop (t .used) room in omega (arith, rest-same))
 
   pub put-is : (w n : ℕ) → w ≡ a .length → n ≡ a .number
-      → seen put (record { used = t .used + w; «cbuf_used» = a .marks; number = n }) ≡ behind (seen room t) (translation l (t .«cbuf_used») (drop (t .used) room))
-  put-is w n p q = rw (p, q, put-rest room (a .out) (t .used) h) (ap (behind (seen room t)) rest-is)
+      → roomView put (record { used = t .used + w; «cbuf_used» = a .marks; number = n }) ≡ roomAfter (roomView room t) (translation l (t .«cbuf_used») (drop (t .used) room))
+  put-is w n p q = rw (p, q, put-rest room (a .out) (t .used) h) (ap (roomAfter (roomView room t)) rest-is)
 
 -- ---- record after record
-pub step-on : (l : List ℕ) (r : Room) → r .number ≡ 0 → step l r ≡ behind r (translation l (r .marks) (drop (r .used) (r .bytes)))
+pub step-on : (l : List ℕ) (r : Room) → r .number ≡ 0 → step l r ≡ roomAfter r (translation l (r .marks) (drop (r .used) (r .bytes)))
 unfolding step
 step-on l r e = rw e refl
 

@@ -1,4 +1,4 @@
--- Records translated in turn into one room, up to the first refusal: each gets what lies behind the last accepted strip, and the use marks that
+-- Records translated in turn into one room, up to the first refusal: each gets what lies after the last accepted strip, and the use marks that
 -- the one before left.
 use mathlib.Core.Bool.{cond}
 use mathlib.Core.List.{List, _++_}
@@ -15,19 +15,19 @@ pub record Room : Type 0 where
   pub marks : List ℕ
   pub number : ℕ
 
--- the room behind an answer
-abbrev pub behind : Room → Answer → Room
-behind r a = record { bytes = take (r .used) (r .bytes) ++ a .out; used = r .used + a .length; marks = a .marks; number = a .number }
+-- the room after an answer
+abbrev pub roomAfter : Room → Answer → Room
+roomAfter r a = record { bytes = take (r .used) (r .bytes) ++ a .out; used = r .used + a .length; marks = a .marks; number = a .number }
 
--- behind a record; a refusal was the last one
+-- after a record; a refusal was the last one
 unfoldable pub step : List ℕ → Room → Room
-step l r = cond (eqb (r .number) 0) (behind r (translation l (r .marks) (drop (r .used) (r .bytes)))) r
+step l r = cond (eqb (r .number) 0) (roomAfter r (translation l (r .marks) (drop (r .used) (r .bytes)))) r
 
--- behind the first n records of a list
+-- after the first n records of a list
 unfoldable pub upTo : ℕ → List ℕ → Room → Room
 upTo zero l r = r
 upTo (suc n) l r = step (take 18 (drop (18 * n) l)) (upTo n l r)
 
 -- the code's view: the room's bytes are lent
-abbrev pub seen : List ℕ → Turn → Room
-seen bytes t = record { bytes = bytes; used = t .used; marks = t .«cbuf_used»; number = t .number }
+abbrev pub roomView : List ℕ → Turn → Room
+roomView bytes t = record { bytes = bytes; used = t .used; marks = t .«cbuf_used»; number = t .number }

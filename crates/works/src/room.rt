@@ -2,8 +2,8 @@
 ghost use Prim.Native.Nat.{_*_, _≤_};
 ghost use mathlib.Core.Path.{_≡_};
 ghost use lib.ListN.{length, drop};
-ghost use Rattle.works.specs.Room.{behind, step, upTo, seen};
-ghost use Rattle.translation.specs.Strip.{numberOf, written, translation};
+ghost use Rattle.works.specs.Room.{roomAfter, step, upTo, roomView};
+ghost use Rattle.translation.specs.Strip.{numberOf, lengthOf, translation};
 use translation::Outcome;
 
 // How many bytes of the room accepted strips fill, the use marks, and the number of the refusal, 0 where there is none.
@@ -26,7 +26,7 @@ pub fn empty() -> Turn
 
 // The strip's length, 0 of a refusal.
 fn written(o: Outcome) -> usize
-    ensures { λ n. ⌜ n ≡ written o ⌝ }
+    ensures { λ n. ⌜ n ≡ lengthOf o ⌝ }
 {
     match o {
         Outcome::Written(n) => n,
@@ -44,10 +44,10 @@ fn number_of(o: Outcome) -> u32
     }
 }
 
-// A record's strip goes behind the last accepted one.
+// A record's strip goes after the last accepted one.
 fn translated(bytes: &[u8], t: Turn, room: &mut [u8]) -> Turn
     requires { ⌜ t .used ≤ length (now room) ⌝ }
-    ensures { λ r. ⌜ seen (now (room .exit)) r ≡ behind (seen (now (room .entry)) t) (translation (now (bytes .entry)) (t .«cbuf_used») (drop (t .used) (now (room .entry)))) ⌝ }
+    ensures { λ r. ⌜ roomView (now (room .exit)) r ≡ roomAfter (roomView (now (room .entry)) t) (translation (now (bytes .entry)) (t .«cbuf_used») (drop (t .used) (now (room .entry)))) ⌝ }
     ensures { λ r. ⌜ (length (now (room .exit)) ≡ length (now (room .entry))) × ((t .used ≤ r .used) × (r .used ≤ length (now (room .exit)))) ⌝ }
 {
     let from = t.used;
@@ -62,10 +62,10 @@ fn translated(bytes: &[u8], t: Turn, room: &mut [u8]) -> Turn
     }
 }
 
-// Behind a refusal nothing is translated.
+// After a refusal nothing is translated.
 fn step(bytes: &[u8], t: Turn, room: &mut [u8]) -> Turn
     requires { ⌜ t .used ≤ length (now room) ⌝ }
-    ensures { λ r. ⌜ seen (now (room .exit)) r ≡ step (now (bytes .entry)) (seen (now (room .entry)) t) ⌝ }
+    ensures { λ r. ⌜ roomView (now (room .exit)) r ≡ step (now (bytes .entry)) (roomView (now (room .entry)) t) ⌝ }
     ensures { λ r. ⌜ (length (now (room .exit)) ≡ length (now (room .entry))) × ((t .used ≤ r .used) × (r .used ≤ length (now (room .exit)))) ⌝ }
 {
     if t.number == 0 {
@@ -78,7 +78,7 @@ fn step(bytes: &[u8], t: Turn, room: &mut [u8]) -> Turn
 // So many records of a list, in turn.
 pub fn in_turn(records: &[u8], count: usize, start: Turn, room: &mut [u8]) -> Turn
     requires { ⌜ (18 * count ≤ length (now records)) × (start .used ≤ length (now room)) ⌝ }
-    ensures { λ r. ⌜ seen (now (room .exit)) r ≡ upTo count (now (records .entry)) (seen (now (room .entry)) start) ⌝ }
+    ensures { λ r. ⌜ roomView (now (room .exit)) r ≡ upTo count (now (records .entry)) (roomView (now (room .entry)) start) ⌝ }
     ensures { λ r. ⌜ (length (now (room .exit)) ≡ length (now (room .entry))) × ((start .used ≤ r .used) × (r .used ≤ length (now (room .exit)))) ⌝ }
 {
     let mut t = start;

@@ -92,7 +92,7 @@ impl<'a> Row<'a> {
     }
 }
 
-/// Strips one behind another.
+/// Strips one after another.
 pub struct Work {
     bytes: Vec<u8>,
     entries: usize,

@@ -65,7 +65,7 @@ impl From<&meaning::State> for Cells {
 }
 
 /// The number that the library gives for a run of strips: 0 if it is evaluated, else 7, 8 or 9. The cells become those
-/// behind the run; a refusal must leave them as they are.
+/// after the run; a refusal must leave them as they are.
 pub fn evaluate(run: &[u8], cells: &mut Cells, constants: &[u32]) -> u32 {
     evaluate_lists(run, &mut cells.registers, &mut cells.truths, constants)
 }

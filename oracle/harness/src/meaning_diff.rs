@@ -1,4 +1,4 @@
-//! The differential test of the meanings: records through translation and evaluation of the library, one behind
+//! The differential test of the meanings: records through translation and evaluation of the library, one after
 //! another, against what 01 says that each does to a state.
 
 use std::sync::atomic::{AtomicU64, AtomicUsize, Ordering};
@@ -307,7 +307,7 @@ impl Tally {
         }
     }
 
-    /// Counts a record of a run; `next` is the state behind it, or `None` if it lacks its constant.
+    /// Counts a record of a run; `next` is the state after it, or `None` if it lacks its constant.
     fn count(&mut self, record: &Record, state: &State, constants: &[u32], next: Option<&State>) {
         let seen = &mut self.seen[usize::from(record.kind) - 1][usize::from(record.form)];
         let guard = Guard::of(record, state);
@@ -330,7 +330,7 @@ impl Tally {
 
 // Comparing.
 
-/// Records that are translated into one room, each behind the strip before it, and evaluated as one run.
+/// Records that are translated into one room, each after the strip before it, and evaluated as one run.
 struct Bench {
     room: Vec<u8>,
     marks: MarkBytes,
@@ -354,7 +354,7 @@ impl Bench {
         Ok(len)
     }
 
-    /// What the library does with the run, against the meanings one after another. Gives the state behind the run, and
+    /// What the library does with the run, against the meanings one after another. Gives the state after the run, and
     /// what differs.
     fn compare(
         &mut self,
@@ -456,7 +456,7 @@ fn run_job(job: u64, pairs: u64, seed: u64, words: &mut [u32], shown: &AtomicU64
         let all = words.len();
         let constants = &words[..list_len(&mut rng, last, all)];
 
-        let (behind, difference) = bench.compare(&mut tally, &records, &state, constants);
+        let (after, difference) = bench.compare(&mut tally, &records, &state, constants);
         if let Some(difference) = difference
             && shown.fetch_add(1, Ordering::Relaxed) < SHOWN
         {
@@ -467,7 +467,7 @@ fn run_job(job: u64, pairs: u64, seed: u64, words: &mut [u32], shown: &AtomicU64
                 state = meaning(record, &state, constants);
             }
         }
-        state = behind;
+        state = after;
     }
     tally
 }

@@ -36,7 +36,7 @@ pub fn random_marks(rng: &mut Rng) -> Marks {
     })
 }
 
-/// What a call answers and leaves behind. The room is the whole one, also behind the part that is lent.
+/// What a call answers, and the lists that it was lent. The room is the whole one, also after the part that is lent.
 #[derive(PartialEq, Eq)]
 struct Answer {
     number: u32,

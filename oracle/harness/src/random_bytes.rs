@@ -80,7 +80,7 @@ struct Lent<T> {
 }
 
 impl<T: Copy + PartialEq> Lent<T> {
-    /// Elements before and behind the list, and a few more before it, so that it begins anywhere.
+    /// Elements before and after the list, and a few more before it, so that it begins anywhere.
     const MARGIN: usize = 64;
     const SHIFTS: usize = 16;
 
@@ -377,7 +377,7 @@ pub fn run(count: u64, seed: u64) -> bool {
     for (function, tally) in FUNCTIONS.iter().zip(&tallies) {
         fine &= tally.report(function);
     }
-    // The constants are too many to be compared behind each call.
+    // The constants are too many to be compared after each call.
     if stock.words != Stock::new(seed).words {
         println!("the list of constants was written to");
         fine = false;

@@ -123,8 +123,8 @@ fn one_damaged(rng: &mut Rng) -> Vec<u8> {
 
 fn among(rng: &mut Rng, strip: &[u8]) -> Vec<u8> {
     let before = (0..rng.below(3)).flat_map(|_| any_strip(rng)).collect::<Vec<u8>>();
-    let behind = (0..rng.below(3)).flat_map(|_| any_strip(rng)).collect::<Vec<u8>>();
-    [&before, strip, &behind].concat()
+    let after = (0..rng.below(3)).flat_map(|_| any_strip(rng)).collect::<Vec<u8>>();
+    [&before, strip, &after].concat()
 }
 
 fn listed_byte(rng: &mut Rng) -> u8 {

@@ -51,7 +51,7 @@ fn round_library(records: &[Bytes]) -> Round<Left<MarkBytes>> {
     })
 }
 
-/// One round of the Rust. What it leaves is made comparable behind the measurement.
+/// One round of the Rust. What it leaves is made comparable after the measurement.
 fn round_rust(
     records: &[Bytes],
     mut translate: impl FnMut(&[u8], &mut Marks, &mut [u8]) -> Result<usize, u8>,

@@ -1,7 +1,7 @@
 //! The differential test of translation: the same records, marks and rooms through the oracle and through the library.
 
 use oracle::generate::{random_admitted, random_record, with_field};
-use oracle::record::{I2I, MOV, MOV_LANE, NAMES, RECORD_LEN, Record};
+use oracle::record::{I2I, MOV, MOV_SYSTEM_VALUE, NAMES, RECORD_LEN, Record};
 use oracle::rng::Rng;
 
 use crate::pair::{Pair, ROOM};
@@ -32,7 +32,7 @@ const CLASSES: [Class; 7] = [
     Class { name: "known kind", must: &[0, 3, 4, 5, 6], may: &[], wrong_marks: false, make: known_kind },
     Class { name: "random record", must: &[0, 2, 3, 4, 5, 6], may: &[], wrong_marks: false, make: any },
     Class { name: "admitted", must: &[0, 6], may: &[], wrong_marks: false, make: admitted },
-    Class { name: "near refusal 4", must: &[0, 2, 3, 4, 6], may: &[], wrong_marks: false, make: near_lane_mov },
+    Class { name: "near refusal 4", must: &[0, 2, 3, 4, 6], may: &[], wrong_marks: false, make: near_system_value_mov },
     Class { name: "near refusal 5", must: &[0, 2, 3, 5, 6], may: &[], wrong_marks: false, make: near_byte_three },
     Class { name: "marks too long or short", must: &[1], may: &[], wrong_marks: true, make: any },
 ];
@@ -79,9 +79,9 @@ fn near(rng: &mut Rng, mut record: Record, kind: u8) -> Vec<u8> {
     record.to_bytes().to_vec()
 }
 
-/// Refusal 4: mov with the value of the lane form, or with one bit of it changed.
-fn near_lane_mov(rng: &mut Rng) -> Vec<u8> {
-    let value = if rng.one_in(2) { MOV_LANE } else { MOV_LANE ^ 1 << rng.below(64) };
+/// Refusal 4: mov of a system value, or with one bit of it changed.
+fn near_system_value_mov(rng: &mut Rng) -> Vec<u8> {
+    let value = if rng.one_in(2) { MOV_SYSTEM_VALUE } else { MOV_SYSTEM_VALUE ^ 1 << rng.below(64) };
     let record = Record { value, ..random_record(rng) };
     near(rng, record, MOV)
 }

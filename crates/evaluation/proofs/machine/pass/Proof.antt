@@ -6,7 +6,7 @@ use Rattle.strip.proofs.Read.{Turn, turn, halt}
 use Rattle.strip.proofs.Pass.{ready-fresh}
 use Rattle.evaluation.specs.declared.machine.Evaluated.{Evaluated}
 use Rattle.evaluation.specs.declared.machine.Ending.{Ending}
-use Rattle.evaluation.specs.Progress.{outcomeAt, ended, Sound}
+use Rattle.evaluation.specs.Progress.{outcomeAt, endEvaluated, Sound}
 use Rattle.evaluation.proofs.Progress.{Holds, holds-begin, stops, stops-at, goes-on, stops-open, finished, rest-undefined, rest-missing, rest-done}
 use borrow.Author.Needs.{needs}
 use Rattle.evaluation.proofs.machine.pass.Statement.{statement}
@@ -24,8 +24,8 @@ turned : (c : tie.After-e Inv-loop μ-loop) → Turn (c .before .before .before 
 turned c = turn _ _ _ (c .before .before .before .before .loop-test .taken) (c .before .before .read-entry .ensures) _ _ (c .e .given .1)
 
 -- an ending is told by its case
-with-end : {r s : Ending} {x : Evaluated} → r ≡ s → ended s ≡ x → ended r ≡ x
-with-end p q = ap ended p ∙ q
+with-end : {r s : Ending} {x : Evaluated} → r ≡ s → endEvaluated s ≡ x → endEvaluated r ≡ x
+with-end p q = ap endEvaluated p ∙ q
 
 pub pass-spec : {M : Type 1} → statement M
 unfolding outcomeAt

@@ -5,13 +5,13 @@ use native.Mathlib.Numerals.{add-one}
 use borrow.Author.Needs.{needs}
 use lib.ListN.{length, take}
 use lib.Seq.{length-sets}
-use Rattle.host.specs.Marks.{bytesOf}
+use Rattle.host.specs.Marks.{markBytes}
 use Rattle.host.proofs.MarkBytes.{bytes-start, bytes-next, bytes-all}
 use Rattle.host.proofs.marks.write_marks.Statement.{statement}
 use Rattle.host.proofs.marks.write_marks.Tie as tie
 
 abbrev Inv-loop : tie.InvT-loop
-Inv-loop marks bytes₀ i₀ bytes i = (i ≤ 32) × (length bytes ≡ 128) × (take (i * 4) bytes ≡ bytesOf (take i marks))
+Inv-loop marks bytes₀ i₀ bytes i = (i ≤ 32) × (length bytes ≡ 128) × (take (i * 4) bytes ≡ markBytes (take i marks))
 
 abbrev μ-loop : tie.MeasureT-loop
 μ-loop marks bytes₀ i₀ bytes i = 32 - i

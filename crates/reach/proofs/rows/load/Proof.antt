@@ -1,12 +1,12 @@
 use mathlib.Core.Path.{_∙_, sym}
 use borrow.Author.Tests.{lt-ltb, le-ltb}
-use Rattle.reach.specs.Rows.{loaded}
+use Rattle.reach.specs.Rows.{rowsLoaded}
 use borrow.Author.Needs.{needs}
 use Rattle.reach.proofs.rows.load.Statement.{statement}
 use Rattle.reach.proofs.rows.load.Tie as tie
 
 pub load-spec : {M : Type 1} → statement M
-unfolding loaded
+unfolding rowsLoaded
 load-spec =
     tie.close
     (tie.spec

@@ -3,14 +3,14 @@ use mathlib.Core.List.{List}
 use Prim.Native.Nat.{ℕ}
 use native.Mathlib.Omega.{arith}
 use borrow.Author.Tests.{lt-ltb, le-ltb}
-use Rattle.reach.specs.Rows.{joinRow, copyRow, stored}
+use Rattle.reach.specs.Rows.{joinRow, copyRow, rowsStored}
 use Rattle.reach.proofs.Lists.{owned-sized}
 use borrow.Author.Needs.{needs}
 use Rattle.reach.proofs.rows.store.Statement.{statement}
 use Rattle.reach.proofs.rows.store.Tie as tie
 
 pub store-spec : {M : Type 1} → statement M
-unfolding stored
+unfolding rowsStored
 store-spec =
     tie.close
     (tie.spec

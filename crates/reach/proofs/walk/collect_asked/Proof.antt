@@ -1,4 +1,4 @@
-use Rattle.reach.proofs.Shown.{collected-by}
+use Rattle.reach.proofs.ListedCells.{collected-by}
 use borrow.Author.Needs.{needs}
 use Rattle.reach.proofs.walk.collect_asked.Statement.{statement}
 use Rattle.reach.proofs.walk.collect_asked.Tie as tie

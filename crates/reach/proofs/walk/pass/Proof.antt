@@ -27,7 +27,7 @@ pass-spec =
     μ-loop
     (λ c κs. search needs)
     (λ c κs. search needs)
-    (λ c. (omega arith, rw (c .new .ensures, c .before .none .ensures) (passing-begin _ _ _ (c .before .before .before .before .pre .0) (c .before .before .before .before .pre .1) refl)))
+    (λ c. (omega arith, rw (c .new .ensures, c .before .empty .ensures) (passing-begin _ _ _ (c .before .before .before .before .pre .0) (c .before .before .before .before .pre .1) refl)))
     (λ c. search needs)
     (λ c. search needs)
     (λ c. search needs)

@@ -10,8 +10,8 @@ store-place-spec =
     tie.close
     (tie.spec
     (λ c κs. search needs)
-    (λ c. rw (eq-eqb _ 7 (c .before .if1 .taken)) (c .placed .ensures))
+    (λ c. rw (eq-eqb _ 7 (c .before .if1 .taken)) (c .cell-number .ensures))
     (λ c κs. search needs)
-    (λ c. rw (ne-eqb _ 7 (c .before .before .if1 .left), eq-eqb _ 8 (c .before .if2 .taken)) (c .placed2 .ensures))
+    (λ c. rw (ne-eqb _ 7 (c .before .before .if1 .left), eq-eqb _ 8 (c .before .if2 .taken)) (c .cell-number2 .ensures))
     (λ c κs. search needs)
-    (λ c. rw (ne-eqb _ 7 (c .before .before .if1 .left), ne-eqb _ 8 (c .before .if2 .left)) (c .placed3 .ensures)))
+    (λ c. rw (ne-eqb _ 7 (c .before .before .if1 .left), ne-eqb _ 8 (c .before .if2 .left)) (c .cell-number3 .ensures)))

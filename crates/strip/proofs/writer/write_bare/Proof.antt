@@ -1,6 +1,6 @@
 use mathlib.Core.Path.{refl}
 use native.Mathlib.Omega.{arith}
-use Rattle.strip.specs.declared.reader.Entry.the-variants as Of
+use Rattle.strip.specs.declared.reader.Entry.the-variants as Entry
 use Rattle.strip.specs.Entry.{encode, kindOf, immediateOf, refsOf}
 use Rattle.strip.proofs.Write.{none, put}
 use borrow.Author.Needs.{needs}
@@ -13,7 +13,7 @@ write-bare-spec =
     tie.close
     (tie.spec
     (λ c κs. search needs)
-    (λ c. let a = c .before .before .before .args in none _ (a .at) (Of.Bare (a .k)) (omega arith))
+    (λ c. let a = c .before .before .before .args in none _ (a .at) (Entry.Bare (a .k)) (omega arith))
     (λ c. search needs)
     (λ c. search needs)
-    (λ c. let a = c .before .before .before .args in put _ (a .at) (Of.Bare (a .k)) (omega arith) refl))
+    (λ c. let a = c .before .before .before .args in put _ (a .at) (Entry.Bare (a .k)) (omega arith) refl))

@@ -1,4 +1,4 @@
-use Rattle.strip.proofs.Write.{kept}
+use Rattle.strip.proofs.Write.{length-kept}
 use borrow.Author.Needs.{needs}
 use Rattle.strip.proofs.writer.write_entry.Statement.{statement}
 use Rattle.strip.proofs.writer.write_entry.Tie as tie
@@ -23,19 +23,19 @@ write-entry-spec =
     (λ c κs. search needs)
     (λ c. search needs)
     (λ c κs. search needs)
-    (λ c. kept (c .before .before .write-bare .ensures))
+    (λ c. length-kept (c .before .before .write-bare .ensures))
     (λ c. rw (c .before .before .before .before .before .e .given .1) (c .before .before .write-bare .ensures))
-    (λ c. kept (c .before .before .write-word .ensures))
+    (λ c. length-kept (c .before .before .write-word .ensures))
     (λ c. rw (c .before .before .before .before .before .e2 .given .1) (c .before .before .write-word .ensures))
-    (λ c. kept (c .before .before .write-cell .ensures))
+    (λ c. length-kept (c .before .before .write-cell .ensures))
     (λ c. rw (c .before .before .before .before .before .e3 .given .1) (c .before .before .write-cell .ensures))
-    (λ c. kept (c .before .before .write-store .ensures))
+    (λ c. length-kept (c .before .before .write-store .ensures))
     (λ c. rw (c .before .before .before .before .before .e4 .given .1) (c .before .before .write-store .ensures))
-    (λ c. kept (c .before .before .write-one .ensures))
+    (λ c. length-kept (c .before .before .write-one .ensures))
     (λ c. rw (c .before .before .before .before .before .e5 .given .1) (c .before .before .write-one .ensures))
-    (λ c. kept (c .before .before .write-two .ensures))
+    (λ c. length-kept (c .before .before .write-two .ensures))
     (λ c. rw (c .before .before .before .before .before .e6 .given .1) (c .before .before .write-two .ensures))
-    (λ c. kept (c .before .before .write-three .ensures))
+    (λ c. length-kept (c .before .before .write-three .ensures))
     (λ c. rw (c .before .before .before .before .before .e7 .given .1) (c .before .before .write-three .ensures))
-    (λ c. kept (c .before .before .write-four .ensures))
+    (λ c. length-kept (c .before .before .write-four .ensures))
     (λ c. rw (c .before .before .before .before .before .e8 .given .1) (c .before .before .write-four .ensures)))

@@ -1,7 +1,7 @@
 use native.Mathlib.Numerals.{towards-suc}
 use native.Mathlib.Omega.{arith}
 use lib.ListN.{length-set}
-use Rattle.strip.specs.declared.reader.Entry.the-variants as Of
+use Rattle.strip.specs.declared.reader.Entry.the-variants as Entry
 use Rattle.strip.specs.Entry.{encode, kindOf, immediateOf, refsOf}
 use Rattle.strip.proofs.Write.{none, put, same}
 use borrow.Author.Needs.{needs}
@@ -14,11 +14,11 @@ write-store-spec =
     tie.close
     (tie.spec
     (λ c κs. search needs)
-    (λ c. let a = c .before .before .before .args in none _ (a .at) (Of.Store (a .k) (a .n) (a .a)) (omega arith))
+    (λ c. let a = c .before .before .before .args in none _ (a .at) (Entry.Store (a .k) (a .n) (a .a)) (omega arith))
     (λ c. search needs)
     (λ c. search needs)
     (λ c. simp length-set (omega arith))
     (λ c. search needs)
     (λ c κs. simp length-set (omega arith))
     (λ c. same (c .before .before .put-ref .ensures) (simp length-set))
-    (λ c. let a = c .before .before .before .before .before .before .before .args in put _ (a .at) (Of.Store (a .k) (a .n) (a .a)) (omega arith) (simp (c .before .before .put-ref .ensures .is, towards-suc))))
+    (λ c. let a = c .before .before .before .before .before .before .before .args in put _ (a .at) (Entry.Store (a .k) (a .n) (a .a)) (omega arith) (simp (c .before .before .put-ref .ensures .is, towards-suc))))

@@ -9,4 +9,4 @@ bfi-spec =
     tie.close
     (tie.spec
     (λ c κs. tt) (λ c κs. tt) (λ c κs. tt) (λ c κs. tt)
-    (λ c. let c2 = c .before .before in let c3 = c2 .before in let c5 = c3 .before .before in by-call (c5 .r-a .ensures) (by-call (rw (← c3 .bfi-swaps .ensures) (c2 .src-bc .ensures .is _ _ _ (c .bfi-of .ensures))) by-ret)))
+    (λ c. let c2 = c .before .before in let c3 = c2 .before in let c5 = c3 .before .before in by-call (c5 .r-a .ensures) (by-call (rw (← c3 .bfi-swaps .ensures) (c2 .src-bc .ensures .is _ _ _ (c .bfi-words .ensures))) by-ret)))

@@ -9,4 +9,4 @@ csetp-spec =
     tie.close
     (tie.spec
     (λ c κs. tt) (λ c κs. tt) (λ c κs. tt) (λ c κs. tt)
-    (λ c. let c2 = c .before .before in let c4 = c2 .before .before in let c5 = c4 .before in rw (← c5 .bits8 .ensures) (by-call (c4 .cc-test .ensures) (by-call (c2 .p-39 .ensures) (by-call (c .setp-both .ensures) by-ret)))))
+    (λ c. let c2 = c .before .before in let c4 = c2 .before .before in let c5 = c4 .before in rw (← c5 .bits8 .ensures) (by-call (c4 .cc-test .ensures) (by-call (c2 .predicate-at-39 .ensures) (by-call (c .setp-both .ensures) by-ret)))))

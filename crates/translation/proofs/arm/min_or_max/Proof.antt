@@ -9,5 +9,5 @@ min-or-max-spec =
     tie.close
     (tie.spec
     (λ c κs. tt) (λ c κs. tt)
-    (λ c. by-yes (c .before .before .if1 .taken) (c .max-of .ensures))
-    (λ c. by-no (c .before .before .if1 .left) (c .min-of .ensures)))
+    (λ c. by-yes (c .before .before .if1 .taken) (c .maximum .ensures))
+    (λ c. by-no (c .before .before .if1 .left) (c .minimum .ensures)))

@@ -9,4 +9,4 @@ sel-spec =
     tie.close
     (tie.spec
     (λ c κs. tt) (λ c κs. tt) (λ c κs. tt) (λ c κs. tt) (λ c κs. tt)
-    (λ c. let c2 = c .before .before in let c4 = c2 .before .before in let c6 = c4 .before .before in let c8 = c6 .before .before in by-call (c8 .p-39 .ensures) (by-call (c6 .r-a .ensures) (by-call (c4 .src-b .ensures) (by-op (c2 .three .ensures) (by-call (c .set-d .ensures) by-ret))))))
+    (λ c. let c2 = c .before .before in let c4 = c2 .before .before in let c6 = c4 .before .before in let c8 = c6 .before .before in by-call (c8 .predicate-at-39 .ensures) (by-call (c6 .r-a .ensures) (by-call (c4 .src-b .ensures) (by-op (c2 .three .ensures) (by-call (c .set-d .ensures) by-ret))))))

@@ -9,4 +9,4 @@ shf-spec =
     tie.close
     (tie.spec
     (λ c κs. tt) (λ c κs. tt) (λ c κs. tt) (λ c κs. tt)
-    (λ c. let c2 = c .before .before in let c4 = c2 .before .before in let c6 = c4 .before .before in by-call (c6 .r-a .ensures) (by-call (c4 .src-b .ensures) (by-call (c2 .r-c .ensures) (by-call (c .shf-of .ensures) by-ret)))))
+    (λ c. let c2 = c .before .before in let c4 = c2 .before .before in let c6 = c4 .before .before in by-call (c6 .r-a .ensures) (by-call (c4 .src-b .ensures) (by-call (c2 .r-c .ensures) (by-call (c .shf-words .ensures) by-ret)))))

@@ -17,6 +17,6 @@ vmnmx-merge-spec =
     (λ c. rw (c .before .before .match .keys3) (record { is = c .vmnmx-insert3 .ensures .is }))
     (λ c. rw (c .before .before .match .keys4) (record { is = c .vmnmx-insert4 .ensures .is }))
     (λ c. rw (c .before .before .match .keys5) (by-no refl (by-no refl (by-no refl (by-no refl (by-yes refl (by-op (c .two .ensures) by-ret)))))))
-    (λ c. rw (c .before .before .match .keys6) (record { is = c .min-of .ensures .is }))
-    (λ c. rw (c .before .before .match .keys7) (record { is = c .max-of .ensures .is }))
+    (λ c. rw (c .before .before .match .keys6) (record { is = c .minimum .ensures .is }))
+    (λ c. rw (c .before .before .match .keys7) (record { is = c .maximum .ensures .is }))
     (λ c. let rest = c .match .rest in by-no (ne-eqb _ _ (rest .0 .0 .0 .0 .0 .0 .1)) (by-no (ne-eqb _ _ (rest .0 .0 .0 .0 .0 .1)) (by-no (ne-eqb _ _ (rest .0 .0 .0 .0 .1)) (by-no (ne-eqb _ _ (rest .0 .0 .0 .1)) (by-no (ne-eqb _ _ (rest .0 .0 .1)) (by-no (ne-eqb _ _ (rest .0 .1)) (by-no (ne-eqb _ _ (rest .1)) by-ret))))))))

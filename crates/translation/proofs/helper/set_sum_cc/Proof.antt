@@ -1,11 +1,11 @@
 use Rattle.translation.specs.Helpers.{setSumCc}
-use Rattle.translation.specs.Emit.{given, words}
+use Rattle.translation.specs.Emit.{isGiven, words}
 use Rattle.translation.proofs.Follow.{by-call, by-no, by-ret, by-yes}
 use Rattle.translation.proofs.helper.set_sum_cc.Statement.{statement}
 use Rattle.translation.proofs.helper.set_sum_cc.Tie as tie
 
 pub set-sum-cc-spec : {M : Type 1} → statement M
-unfolding setSumCc given words
+unfolding setSumCc isGiven words
 set-sum-cc-spec =
     tie.close
     (tie.spec

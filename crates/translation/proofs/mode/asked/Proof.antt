@@ -13,4 +13,4 @@ asked-spec =
     (λ c κs. search needs)
     (λ c κs. search needs)
     (λ c κs. search needs)
-    (λ c. rw (← c .before .before .before .before .mask-of .ensures, ← c .before .before .before .table-bit .ensures, ← c .before .before .bit .ensures, ← c .before .either .ensures) (c .both .ensures)))
+    (λ c. rw (← c .before .before .before .before .predicate-mask .ensures, ← c .before .before .before .table-bit .ensures, ← c .before .before .bit .ensures, ← c .before .either .ensures) (c .both .ensures)))

@@ -17,4 +17,4 @@ p2r-keep-spec =
     (λ c. search needs)
     (λ c. search needs)
     (λ c. search needs)
-    (λ c. let b = c .bits .ensures in rw (← c .before .mask-of .ensures, ← b .0, mask-fits (c .before .mask-of .result) (c .bits .result) (b .1))))
+    (λ c. let b = c .bits .ensures in rw (← c .before .predicate-mask .ensures, ← b .0, mask-fits (c .before .predicate-mask .result) (c .bits .result) (b .1))))

@@ -4,13 +4,13 @@ use native.Mathlib.Omega.{arith}
 use native.Mathlib.Numerals.{add-one}
 use lib.ListN.{length, take, drop}
 use borrow.Author.Needs.{needs}
-use Rattle.works.specs.Room.{upTo, seen}
+use Rattle.works.specs.Room.{upTo, roomView}
 use Rattle.works.proofs.Rest.{up-one, up-none}
 use Rattle.works.proofs.room.in_turn.Statement.{statement}
 use Rattle.works.proofs.room.in_turn.Tie as tie
 
 abbrev Inv-loop : tie.InvT-loop
-Inv-loop records count room₀ t₀ n₀ room t n = (n ≤ count) × (seen room t ≡ upTo n records (seen room₀ t₀)) × (length room ≡ length room₀) × (t₀ .used ≤ t .used) × (t .used ≤ length room)
+Inv-loop records count room₀ t₀ n₀ room t n = (n ≤ count) × (roomView room t ≡ upTo n records (roomView room₀ t₀)) × (length room ≡ length room₀) × (t₀ .used ≤ t .used) × (t .used ≤ length room)
 
 abbrev μ-loop : tie.MeasureT-loop
 μ-loop records count room₀ t₀ n₀ room t n = count - n
@@ -31,7 +31,7 @@ in-turn-spec =
     (λ c. let s = c .before .before .before .before .before .before .before .before .before in let l = c .before .before .before .before .before .before .loop in let t = c .before .before .step in
     let z : 18 * l .n + 18 - 18 * l .n ≡ 18 = omega arith in (
       omega arith,
-      t .ensures .0 ∙ rw (add-one, l .inv .1) (up-one (l .n) (s .args .records .now) _ (seen (s .args .room .now) (s .args .start)) (ap (λ (k : ℕ). take k (drop (18 * l .n) (s .args .records .now))) z)),
+      t .ensures .0 ∙ rw (add-one, l .inv .1) (up-one (l .n) (s .args .records .now) _ (roomView (s .args .room .now) (s .args .start)) (ap (λ (k : ℕ). take k (drop (18 * l .n) (s .args .records .now))) z)),
       t .ensures .1 .0 ∙ l .inv .2,
       omega (arith, t .ensures .1 .1 .0, l .inv .3),
       t .ensures .1 .1 .1,

@@ -1,10 +1,10 @@
 use borrow.Author.Needs.{needs}
-use Rattle.translation.specs.Strip.{written}
+use Rattle.translation.specs.Strip.{lengthOf}
 use Rattle.works.proofs.room.written.Statement.{statement}
 use Rattle.works.proofs.room.written.Tie as tie
 
 pub written-spec : {M : Type 1} → statement M
-unfolding written
+unfolding lengthOf
 written-spec =
     tie.close
     (tie.spec
