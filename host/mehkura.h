@@ -4,7 +4,8 @@
  * and a length. No pointer may be null, for a list of length 0 either, and lists that one call gets must not overlap. No function keeps a pointer,
  * allocates or touches anything else; all may be called from several threads at once.
  *
- * Each answers a number of enum mehkura_answer. A refused call leaves everything that it was lent as it was, byte for byte.
+ * Each answers a number of enum mehkura_answer. A refused call leaves everything that it was lent as it was, byte for byte, but for the three numbers
+ * that say where 9 was met.
  */
 #ifndef MEHKURA_H
 #define MEHKURA_H
@@ -49,9 +50,11 @@ uint32_t mehkura_translate(const uint8_t *record, size_t record_len, uint8_t *ma
 uint32_t mehkura_reach(const uint8_t *run, size_t run_len, uint8_t *cells, size_t cells_len);
 
 /* Evaluates a run from a state, in place: the registers, and a byte for each truth, true where it is not 0, answered as 0 or 1. Word w of constant
- * slot s is element s * 16384 + w of the constants. Answers 0, or 7, 8, 9. */
+ * slot s is element s * 16384 + w of the constants. Answers 0, or 7, 8, 9. With 9, and then alone, *slot, *vec and *comp become what the first address
+ * that was refused asked for: word vec * 4 + comp of the slot is not lent. A strip can ask for any 32-bit vec and comp; no list holds a word at a vec
+ * above 4095 or a comp above 3, nor at an address whose zero is not 0. */
 uint32_t mehkura_evaluate(const uint8_t *run, size_t run_len, uint32_t *registers, size_t registers_len, uint8_t *truths, size_t truths_len,
-                          const uint32_t *constants, size_t constants_len);
+                          const uint32_t *constants, size_t constants_len, uint32_t *slot, uint32_t *vec, uint32_t *comp);
 
 #ifdef __cplusplus
 }

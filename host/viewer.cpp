@@ -57,13 +57,25 @@ struct Room {
     }
 };
 
+// The constant word that 9 says is not lent.
+struct Fault {
+    uint32_t slot = 0xabad1dea, vec = 0xabad1dea, comp = 0xabad1dea;
+
+    bool operator==(const Fault &other) const { return slot == other.slot && vec == other.vec && comp == other.comp; }
+
+    std::string text() const {
+        return "slot " + std::to_string(slot) + ", vec " + std::to_string(vec) + ", comp " + std::to_string(comp) + " is not lent";
+    }
+};
+
 struct State {
     std::array<uint32_t, MEHKURA_REGISTERS> registers{};
     std::array<uint8_t, MEHKURA_TRUTHS> truths{};
+    Fault fault;
 
     uint32_t run(const Room &room, const std::vector<uint32_t> &constants = {0}) {
         return mehkura_evaluate(room.bytes.data(), room.used, registers.data(), registers.size(), truths.data(), truths.size(), constants.data(),
-                                constants.size());
+                                constants.size(), &fault.slot, &fault.vec, &fault.comp);
     }
 };
 
@@ -223,29 +235,79 @@ void translations() {
     std::puts("translations: refusals 1 to 6, a room exactly full");
 }
 
-// Every refusal of the evaluation, with the state as it was after it.
+// A strip with an address: slot, zero, vec and comp.
+Bytes address(uint8_t slot, uint32_t zero, uint32_t vec, uint32_t comp) {
+    Bytes strip{10, slot};
+    for (uint32_t n : {zero, vec, comp}) {
+        strip.push_back(1);
+        for (int i = 0; i < 4; ++i) strip.push_back(static_cast<uint8_t>(n >> (8 * i)));
+    }
+    for (uint8_t byte : {11, 0, 0, 1, 0, 2, 0, 3, 0, 255}) strip.push_back(byte);
+    return strip;
+}
+
+Bytes joined(const Bytes &first, const Bytes &second) {
+    Bytes both = first;
+    both.insert(both.end(), second.begin(), second.end());
+    return both;
+}
+
+// Every refusal of the evaluation, with the state as it was after it; 9 alone says where.
 void evaluations() {
-    auto refuses = [](const Bytes &run, size_t registers, size_t truths, const std::vector<uint32_t> &constants, uint32_t number, const std::string &what) {
+    const Fault none;
+    auto refuses = [](const Bytes &run, size_t registers, size_t truths, const std::vector<uint32_t> &constants, uint32_t number, const Fault &fault,
+                      const std::string &what) {
         std::vector<uint32_t> r(registers, 0x5a5a5a5a);
         std::vector<uint8_t> t(truths, 9);
         const auto r_before = r;
         const auto t_before = t;
-        check(mehkura_evaluate(run.data(), run.size(), r.data(), r.size(), t.data(), t.size(), constants.data(), constants.size()) == number, what);
+        Fault told;
+        check(mehkura_evaluate(run.data(), run.size(), r.data(), r.size(), t.data(), t.size(), constants.data(), constants.size(), &told.slot, &told.vec,
+                               &told.comp) == number,
+              what);
         check(r == r_before && t == t_before, what + ": the state as it was");
+        check(told == fault, what + ": " + told.text());
     };
     const Bytes end{0xff};
-    refuses({0}, 255, 11, {0}, 7, "7 for a run that is not well-formed");
-    refuses(end, 254, 11, {0}, 7, "7 for 254 registers");
-    refuses(end, 255, 12, {0}, 7, "7 for 12 truths");
+    refuses({0}, 255, 11, {0}, 7, none, "7 for a run that is not well-formed");
+    refuses(end, 254, 11, {0}, 7, none, "7 for 254 registers");
+    refuses(end, 255, 12, {0}, 7, none, "7 for 12 truths");
     // a store, then a word shifted by 32 that reaches a store
-    refuses({1, 32, 0, 0, 0, 7, 0, 0, 0, 43, 0, 0, 0, 0, 7, 1, 1, 0, 0xff}, 255, 11, {0}, 8, "8 for an undefined value");
+    const Bytes undefined{1, 32, 0, 0, 0, 7, 0, 0, 0, 43, 0, 0, 0, 0, 7, 1, 1, 0, 0xff};
+    refuses(undefined, 255, 11, {0}, 8, none, "8 for an undefined value");
+
+    // mov R0, word 70 of slot 3: vec 17, comp 2
     Room room(256);
-    check(room.add(record(1, 1, 0, guard(7) | rd(0) | 3ull << 20)) == 0, "mov of a constant");
+    check(room.add(record(1, 1, 0, guard(7) | rd(0) | 70ull << 20 | 3ull << 34)) == 0, "mov of a constant");
     const Bytes run(room.bytes.begin(), room.bytes.begin() + static_cast<long>(room.used));
-    refuses(run, 255, 11, {1, 2, 3}, 9, "9 for a constant that is not lent");
+    const Fault word{3, 17, 2};
+    refuses(run, 255, 11, std::vector<uint32_t>(3 * 16384 + 70), 9, word, "9 for a constant that is not lent");
+    std::vector<uint32_t> lent(3 * 16384 + 71);
+    lent.back() = 4;
     State s;
-    check(s.run(room, {1, 2, 3, 4}) == 0 && s.registers[0] == 4, "the constant is lent");
-    std::puts("evaluations: refusals 7, 8 and 9");
+    check(s.run(room, lent) == 0 && s.registers[0] == 4 && s.fault == none, "the constant is lent");
+
+    // each cause, the numbers as they reached the address
+    for (uint32_t zero : {1u, 0x80000000u}) refuses(address(3, zero, 17, 2), 255, 11, lent, 9, word, "9 for a zero that is not 0");
+    for (uint32_t vec : {4096u, 0x80000000u, 0xffffffffu}) refuses(address(31, 0, vec, 2), 255, 11, lent, 9, {31, vec, 2}, "9 for a vec above 4095");
+    for (uint32_t comp : {4u, 0x80000000u, 0xffffffffu}) refuses(address(0, 0, 0, comp), 255, 11, lent, 9, {0, 0, comp}, "9 for a comp above 3");
+    // the first one counts; 8 before it, or a bad shape anywhere, leaves the numbers
+    refuses(joined(run, address(5, 0, 6, 1)), 255, 11, {0}, 9, word, "9 twice");
+    refuses(joined(address(5, 0, 6, 1), run), 255, 11, {0}, 9, {5, 6, 1}, "9 twice, the other first");
+    refuses(joined(run, undefined), 255, 11, {0}, 9, word, "9, then 8");
+    refuses(joined(undefined, run), 255, 11, {0}, 8, none, "8, then 9");
+    refuses(joined(run, {0}), 255, 11, {0}, 7, none, "9, then bytes that are no strip");
+
+    // under a guard that does not hold nothing is asked for
+    Room guarded(256);
+    check(guarded.add(record(1, 1, 0, guard(0) | rd(0) | 70ull << 20 | 3ull << 34)) == 0, "a guarded mov of a constant");
+    State skips;
+    check(skips.run(guarded) == 0 && skips.fault == none, "a skipped block asks for nothing");
+
+    State asks;
+    check(asks.run(room) == 9, "the constant is not lent");
+    std::printf("evaluations: refusals 7, 8 and 9: %s\n", asks.fault.text().c_str());
+    check(asks.fault.text() == "slot 3, vec 17, comp 2 is not lent", "the fault in words");
 }
 
 } // namespace

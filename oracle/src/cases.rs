@@ -6,7 +6,7 @@
 
 use std::collections::BTreeSet;
 
-use crate::evaluate::{State, evaluate};
+use crate::evaluate::{Refusal, State, evaluate};
 use crate::format::{Immediate, MAX_ENTRIES, Value, layout};
 use crate::starts::ALL_WORDS;
 
@@ -99,16 +99,25 @@ impl Case {
         format!("{:x} {} {}\n", self.lent, if hex.is_empty() { "-" } else { &hex }, self.name)
     }
 
-    /// The line of output: 0 or the refusal's number, each cell that changed, the name.
+    /// The line of output: 0 or the refusal's number, with 9 the word that the address asked for, each cell that
+    /// changed, the name.
     pub fn answer(&self, constants: &[u32]) -> String {
         let before = start();
         let (number, after) = match evaluate(&self.run, &before, &constants[..self.lent]) {
-            Ok(after) => (0, after),
-            Err(refusal) => (refusal.number(), before.clone()),
+            Ok(after) => ("0".to_owned(), after),
+            Err(refusal) => (told(refusal), before.clone()),
         };
         let changed = cells_of(&before).into_iter().zip(cells_of(&after)).filter(|(before, after)| before != after);
         let changed: String = changed.map(|(_, after)| format!(" {after}")).collect();
         format!("{number}{changed} {}\n", self.name)
+    }
+}
+
+/// The refusal's number and what it carries, as in `8` and `9 slot=03 vec=00000011 comp=00000002`.
+fn told(refusal: Refusal) -> String {
+    match refusal {
+        Refusal::Constant { slot, vec, comp } => format!("9 slot={slot:02x} vec={vec:08x} comp={comp:08x}"),
+        _ => refusal.number().to_string(),
     }
 }
 
@@ -480,6 +489,12 @@ fn addresses(list: &mut List) {
         (1, 0, 4095, 0xffff_fffc),
         (0, 0, 1, ONES),
         (31, 1, 4096, 4),
+        // The three numbers are those that the address asked for, whatever the cause.
+        (7, 0, 0x9abc_def8, 0x8765_4321),
+        (30, ONES, MIN, ONES),
+        (9, 1, 17, 2),
+        (9, 0, 17, MIN),
+        (9, 0, MIN, 2),
     ] {
         let title = format!("slot {slot} zero {} vec {} comp {} of all words", count(zero), count(vec), count(comp));
         list.lend(ALL_WORDS, title, &load(slot, zero, vec, comp));
@@ -569,6 +584,10 @@ const SKIPPED: &str = "03 | 64 0000 | 65 | ff";
 const UNDEFINED_IN_BLOCK: &str = "01 20000000 | 2b 0100 0100 | 64 0000 | 07 05 0200 | 65 | ff";
 /// A strip with an address in slot 1, which is not lent.
 const REFUSED_9: &str = "0a 01 | 01 00000000 | 0b 0000 0100 0100 0100 | ff";
+/// A strip with an address in slot 2, vec 3 and comp 1, which is not lent either.
+const OTHER_9: &str = "0a 02 | 01 00000000 | 01 03000000 | 01 01000000 | 0b 0000 0100 0200 0300 | ff";
+/// A strip with an address out of range in its block; the truth before it is missing.
+const OUT_OF_RANGE_IN_BLOCK: &str = "0a 05 | 01 20000000 | 64 0000 | 0b 0100 0200 0200 0200 | 65 | ff";
 
 fn order(list: &mut List) {
     list.add("refused 8", REFUSED_8);
@@ -606,6 +625,10 @@ fn order(list: &mut List) {
         ("9, then a skipped block", format!("{address} 03 | 64 0600 | 65 |")),
         ("8, then a skipped block", "07 05 0100 | 03 | 64 0500 | 65 |".to_owned()),
         ("9 twice", format!("{address} {address}")),
+        ("9, then 9 of another word", format!("{address} 01 03000000 | 0b 0200 0300 0600 0600 |")),
+        ("9 of another word, then 9", format!("01 03000000 | 0b 0200 0300 0500 0500 | {address}")),
+        ("9 by zero, then 9 by comp", "0b 0200 0000 0000 0300 | 0b 0200 0300 0300 0000 |".to_owned()),
+        ("9 by comp, then 9 by zero", "0b 0200 0300 0300 0000 | 0b 0200 0000 0000 0300 |".to_owned()),
         ("8 twice", "07 05 0100 | 07 06 0100 |".to_owned()),
     ] {
         list.add(format!("one strip: {name}"), &format!("{head} {entries} ff"));
@@ -622,6 +645,13 @@ fn order(list: &mut List) {
         ("9, then a store", format!("{REFUSED_9} {COUNT}")),
         ("a store, 8, a skipped block, a store", format!("{COUNT} {REFUSED_8} {SKIPPED} {COUNT}")),
         ("9, a skipped block, 8", format!("{REFUSED_9} {SKIPPED} {REFUSED_8}")),
+        ("9, then 9 of another word", format!("{REFUSED_9} {OTHER_9}")),
+        ("9 of another word, then 9", format!("{OTHER_9} {REFUSED_9}")),
+        ("a store, 9, a store, 9 of another word", format!("{COUNT} {REFUSED_9} {COUNT} {OTHER_9}")),
+        ("8, then 9 twice", format!("{REFUSED_8} {OTHER_9} {REFUSED_9}")),
+        ("9 in a taken block, then 9", format!("02 | {OUT_OF_RANGE_IN_BLOCK} {REFUSED_9}")),
+        ("9 in a skipped block, then 9", format!("03 | {OUT_OF_RANGE_IN_BLOCK} {REFUSED_9}")),
+        ("9 in a skipped block, then a store", format!("03 | {OUT_OF_RANGE_IN_BLOCK} {COUNT}")),
         ("8 in a taken block, then a store", format!("02 | {UNDEFINED_IN_BLOCK} {COUNT}")),
         ("8 in a skipped block, then a store", format!("03 | {UNDEFINED_IN_BLOCK} {COUNT}")),
         ("8 in a skipped block, then 9", format!("03 | {UNDEFINED_IN_BLOCK} {REFUSED_9}")),

@@ -52,7 +52,7 @@ pub struct State {
 }
 
 /// The state after an instruction. The record must be one that is not refused. A constant word that is not lent counts
-/// as 0; [`lacks_word`] says where that matters.
+/// as 0; [`lacking_word`] says where that matters.
 pub fn meaning(record: &Record, state: &State, constants: &[u32]) -> State {
     let mut step = Step { record, before: state, constants, after: state.clone() };
     if guard_holds(record, state) {
@@ -81,9 +81,24 @@ pub fn element_named(record: &Record) -> usize {
     (field_of(record, 34, 5) * SLOT_WORDS + field_of(record, 20, 14)) as usize
 }
 
-/// Whether the instruction runs and reads a constant word that the list does not hold: then there is no state after it.
-pub fn lacks_word(record: &Record, state: &State, constants: &[u32]) -> bool {
-    guard_holds(record, state) && element_read(record).is_some_and(|element| element >= constants.len())
+/// A constant word by its slot, its vector there and its place in that.
+#[derive(Clone, Copy, Debug, PartialEq, Eq)]
+pub struct ConstantWord {
+    pub slot: u32,
+    pub vec: u32,
+    pub comp: u32,
+}
+
+/// The constant word that the instruction reads and the list does not hold, if it runs and there is one: then there is no
+/// state after it.
+pub fn lacking_word(record: &Record, state: &State, constants: &[u32]) -> Option<ConstantWord> {
+    let element = element_read(record)?;
+    let word = field_of(record, 20, 14) as u32;
+    (guard_holds(record, state) && element >= constants.len()).then_some(ConstantWord {
+        slot: field_of(record, 34, 5) as u32,
+        vec: word / 4,
+        comp: word % 4,
+    })
 }
 
 /// The number in `len` bits of the record's word from bit `lo` on.

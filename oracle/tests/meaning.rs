@@ -2,7 +2,7 @@
 //!
 //! Unless a case says otherwise, rd is R1, ra R2, rb R3, rc R4 and the guard is 7. Every case compares the whole state.
 
-use oracle::meaning::{State, element_read, guard_holds, lacks_word, meaning};
+use oracle::meaning::{ConstantWord, State, element_read, guard_holds, lacking_word, meaning};
 use oracle::record::{NAMES, Record};
 
 const REG: u8 = 0;
@@ -115,7 +115,7 @@ impl Given {
 
     fn after(&self) -> State {
         assert_eq!(self.record.admit().err(), None, "these records are not refused");
-        assert!(!lacks_word(&self.record, &self.state, &self.constants), "the constants are lent");
+        assert_eq!(lacking_word(&self.record, &self.state, &self.constants), None, "the constants are lent");
         meaning(&self.record, &self.state, &self.constants)
     }
 
@@ -217,10 +217,15 @@ fn operands() {
 
 #[test]
 fn constants_that_are_not_lent() {
-    let lacks = |given: &Given, len: usize| lacks_word(&given.record, &given.state, &vec![0; len]);
+    let lacking = |given: &Given, len: usize| lacking_word(&given.record, &given.state, &vec![0; len]);
+    let lacks = |given: &Given, len: usize| lacking(given, len).is_some();
     let reads = given("mov", CBUF, cbuf(3, 4));
     assert_eq!(element_read(&reads.record), Some(49_156));
     assert!(lacks(&reads, 0) && lacks(&reads, 49_156) && !lacks(&reads, 49_157));
+    for (slot, word, vec, comp) in [(3, 4, 1, 0), (3, 71, 17, 3), (0, 2, 0, 2), (31, 16_383, 4095, 3)] {
+        let named = lacking(&given("mov", CBUF, cbuf(slot, word)), 0);
+        assert_eq!(named, Some(ConstantWord { slot: slot as u32, vec, comp }));
+    }
     // A destination that keeps nothing, or a test that does not need b, still reads.
     assert!(lacks(&given("mov", CBUF, cbuf(3, 4) | 255), 49_156));
     assert!(lacks(&given("isetp", CBUF, cbuf(3, 4)), 49_156));

@@ -1,14 +1,16 @@
 //! The works in `samples/`: the files are the records named here with the reference's answers, and the works do what
 //! `samples/README.md` says of them.
 
-use oracle::evaluate::{State, evaluate};
+use oracle::evaluate::{Refusal, State, evaluate};
 use oracle::print::print;
 use oracle::record::Record;
 use oracle::{SLOTS, translate};
 
+const MOV: u8 = 1;
 const IADD: u8 = 9;
 const P2R: u8 = 28;
 const REG: u8 = 0;
+const CBUF: u8 = 1;
 const IMM: u8 = 2;
 
 /// No register: it reads 0.
@@ -20,6 +22,11 @@ const RA: u32 = 8;
 const GUARD: u32 = 16;
 const RB: u32 = 20;
 const NUMBER: u32 = 20;
+/// A constant: its word and its slot.
+const WORD: u32 = 20;
+const SLOT: u32 = 34;
+/// mov: the lanes that take part.
+const LANES: u32 = 39;
 /// p2r: flags instead of predicates, and the byte.
 const FLAGS: u32 = 40;
 const BYTE: u32 = 41;
@@ -50,6 +57,14 @@ fn conditions() -> Vec<Record> {
     ]
 }
 
+/// R0 = word 70 of slot 3, plus word 71.
+fn constants() -> Vec<Record> {
+    vec![
+        record(MOV, CBUF, 0x4c98, &[(RD, 0), (WORD, 70), (SLOT, 3), (LANES, 0xf)]),
+        record(IADD, CBUF, 0x4c10, &[(RD, 0), (RA, 0), (WORD, 71), (SLOT, 3)]),
+    ]
+}
+
 fn bytes(records: &[Record]) -> Vec<u8> {
     records.iter().flat_map(Record::to_bytes).collect()
 }
@@ -71,6 +86,8 @@ fn the_files_hold_the_named_records_and_the_answers_of_the_reference() {
     assert_eq!(include_str!("../../samples/count.txt"), printed(&bytes(&count())));
     assert_eq!(include_bytes!("../../samples/conditions.bin")[..], bytes(&conditions()));
     assert_eq!(include_str!("../../samples/conditions.txt"), printed(&bytes(&conditions())));
+    assert_eq!(include_bytes!("../../samples/constants.bin")[..], bytes(&constants()));
+    assert_eq!(include_str!("../../samples/constants.txt"), printed(&bytes(&constants())));
     let example = include_bytes!("../../samples/two_records.bin");
     assert_eq!(include_str!("../../samples/two_records.txt"), printed(example));
 }
@@ -130,4 +147,18 @@ fn the_number_beside_the_conditions_survives() {
             }
         }
     }
+}
+
+#[test]
+fn the_first_constant_that_is_not_lent_is_named() {
+    let run = run(&constants());
+    let first = 3 * 16_384 + 70;
+    let mut words = vec![0; first + 2];
+    words[first] = 40;
+    words[first + 1] = 2;
+    let evaluated = |len: usize| evaluate(&run, &State::default(), &words[..len]).map(|state| state.registers[0]);
+    assert_eq!(evaluated(0), Err(Refusal::Constant { slot: 3, vec: 17, comp: 2 }));
+    assert_eq!(evaluated(first), Err(Refusal::Constant { slot: 3, vec: 17, comp: 2 }));
+    assert_eq!(evaluated(first + 1), Err(Refusal::Constant { slot: 3, vec: 17, comp: 3 }));
+    assert_eq!(evaluated(first + 2), Ok(42));
 }

@@ -1,11 +1,13 @@
 // Runs hand-made strips and writes what each does to one fixed state. The input has one case to a line, `N HEX NAME`: how many constant
-// words are lent (in hex), the run's bytes (`-` for none), a name. The line of output has 01's number (0 where the run was evaluated), each
-// cell that is not as at the start, and the name: `0 R05=0000002a P3=1 C=0 NAME`. What comes back is compared for refused runs too.
+// words are lent (in hex), the run's bytes (`-` for none), a name. The line of output has 01's number (0 where the run was evaluated), with 9 what
+// the address asked for, each cell that is not as at the start, and the name: `0 R05=0000002a P3=1 C=0 NAME`,
+// `9 slot=03 vec=00000011 comp=00000002 NAME`. What comes back is compared for refused runs too.
 ghost use Prim.Native.Nat.{_≤_};
 ghost use mathlib.Core.Path.{_≡_};
 ghost use lib.ListN.{length};
-ghost use Rattle.evaluation.specs.Machine.{numberOf};
+ghost use Rattle.evaluation.specs.Machine.{told};
 use evaluation::Outcome;
+use evaluation::Refusal;
 use evaluation::State;
 use libc::STDOUT_FILENO;
 
@@ -33,7 +35,7 @@ fn start() -> State {
 
 // 01's number, 0 where the run was evaluated.
 fn number_of(o: Outcome) -> u64
-    ensures { λ n. ⌜ n ≡ numberOf o ⌝ }
+    ensures { λ n. ⌜ n ≡ told o .number ⌝ }
 {
     match o {
         Outcome::Done => 0,
@@ -41,13 +43,29 @@ fn number_of(o: Outcome) -> u64
     }
 }
 
+fn numbered(name: &[u8], n: u64, digits: usize) {
+    io::write_all(STDOUT_FILENO, name);
+    io::print_hex(STDOUT_FILENO, n, digits);
+}
+
+// ` slot=03 vec=00000011 comp=00000002` with 9.
+fn fault(o: Outcome) {
+    let Outcome::Refused(r) = o else {
+        return;
+    };
+    let Refusal::NoConstant(slot, vec, comp) = r else {
+        return;
+    };
+    numbered(b" slot=", slot as u64, 2);
+    numbered(b" vec=", vec as u64, 8);
+    numbered(b" comp=", comp as u64, 8);
+}
+
 // ` R05=0000002a` where the register changed.
 fn register(n: u64, before: u32, after: u32) {
     if before != after {
-        io::write_all(STDOUT_FILENO, b" R");
-        io::print_hex(STDOUT_FILENO, n, 2);
-        io::write_all(STDOUT_FILENO, b"=");
-        io::print_hex(STDOUT_FILENO, after as u64, 8);
+        numbered(b" R", n, 2);
+        numbered(b"=", after as u64, 8);
     }
 }
 
@@ -108,6 +126,7 @@ fn answer(run: &[u8], constants: &[u32]) {
     let o = r.outcome;
     let after = r.state;
     io::print_decimal(STDOUT_FILENO, number_of(o));
+    fault(o);
     changes(before, after);
 }
 

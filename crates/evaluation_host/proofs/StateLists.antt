@@ -1,7 +1,7 @@
 -- A state in two lists, and what `mehkura_evaluate` answers case by case.
 use mathlib.Core.Path.{_≡_, refl}
 use mathlib.Core.List.{List, [], _++_, map}
-use mathlib.Core.Bool.{Bool, false}
+use mathlib.Core.Bool.{Bool, cond}
 use Prim.Native.Nat.{ℕ}
 use native.Mathlib.Omega.{arith}
 use lib.ListN.{length}
@@ -12,7 +12,7 @@ use Rattle.evaluation.specs.declared.machine.Evaluated.{Evaluated}
 use Rattle.evaluation.specs.declared.machine.Outcome.the-variants.{Done, Refused}
 use Rattle.evaluation.specs.declared.machine.Refusal.{Refusal}
 use Rattle.evaluation.specs.declared.machine.Refusal.the-variants.{BadShape, UndefinedValue, NoConstant}
-use Rattle.evaluation.specs.Machine.{numberOf, refusalNumber, Answer, answerOf, evaluation}
+use Rattle.evaluation.specs.Machine.{refusalTold, told, Answer, answerOf, evaluation}
 use borrow.Author.Tests.{eq-eqb, ne-eqb}
 use Rattle.truth_bytes.specs.Truths.{truthByte, truthsAt}
 use Rattle.evaluation_host.specs.States.{stateIn, truthBytes, returns, handedBack, evaluateAnswer}
@@ -31,30 +31,30 @@ truths-written {ts₁} s ts p f h e₁ e₂ =
     whole (s .preds ++ s .flags) 11 (appended ts₁ (s .preds) (s .flags) 7 4 11 f (omega arith) (appended ts [] (s .preds) 0 7 11 p (omega arith) (refl, h) e₁) e₂)
 
 -- ---- the answer
-module _ (run rs ts cs : List ℕ) where
-  pub wrong-registers : (length rs ≡ 255 → ⊥) → returns 7 rs ts ≡ evaluateAnswer run rs ts cs
+module _ (run rs ts cs fault : List ℕ) where
+  pub wrong-registers : (length rs ≡ 255 → ⊥) → returns 7 rs ts fault ≡ evaluateAnswer run rs ts cs fault
   unfolding evaluateAnswer
   wrong-registers h = rw (ne-eqb (length rs) 255 h)
 
-  pub wrong-truths : length rs ≡ 255 → (length ts ≡ 11 → ⊥) → returns 7 rs ts ≡ evaluateAnswer run rs ts cs
+  pub wrong-truths : length rs ≡ 255 → (length ts ≡ 11 → ⊥) → returns 7 rs ts fault ≡ evaluateAnswer run rs ts cs fault
   unfolding evaluateAnswer
   wrong-truths e h = rw (eq-eqb (length rs) 255 e, ne-eqb (length ts) 11 h)
 
-  pub ran : {s : State} {a : Answer} → length rs ≡ 255 → length ts ≡ 11 → s ≡ stateIn rs ts → a ≡ evaluation run s cs → handedBack a rs ts ≡ evaluateAnswer run rs ts cs
+  pub ran : {s : State} {a : Answer} → length rs ≡ 255 → length ts ≡ 11 → s ≡ stateIn rs ts → a ≡ evaluation run s cs → handedBack a rs ts fault ≡ evaluateAnswer run rs ts cs fault
   unfolding evaluateAnswer
   ran e h p q = rw (eq-eqb (length rs) 255 e, eq-eqb (length ts) 11 h, ← p, ← q)
 
-nonzero : (f : Refusal) → eqb (refusalNumber f) 0 ≡ false
-unfolding refusalNumber
-nonzero BadShape = refl
-nonzero UndefinedValue = refl
-nonzero NoConstant = refl
-
-module _ (r : Evaluated) (rs ts : List ℕ) where
-  pub done : {rs' ts' : List ℕ} → r .outcome ≡ Done → rs' ≡ r .state .regs → ts' ≡ truthBytes (r .state) → returns 0 rs' ts' ≡ handedBack (answerOf r) rs ts
-  unfolding handedBack numberOf
+module _ (r : Evaluated) (rs ts fault : List ℕ) where
+  pub done : {rs' ts' : List ℕ} → r .outcome ≡ Done → rs' ≡ r .state .regs → ts' ≡ truthBytes (r .state) → returns 0 rs' ts' fault ≡ handedBack (answerOf r) rs ts fault
+  unfolding handedBack told
   done o p q = rw (o, p, q)
 
-  pub refused : {n : ℕ} {f : Refusal} → r .outcome ≡ Refused f → n ≡ refusalNumber f → returns n rs ts ≡ handedBack (answerOf r) rs ts
-  unfolding handedBack numberOf
-  refused {f = f} o p = rw (o, p, nonzero f)
+  -- what a refusal writes over slot, vec and comp
+  abbrev placed : Refusal → List ℕ
+  placed f = cond (eqb (refusalTold f .number) 9) (refusalTold f .carried) fault
+
+  pub refused : (f : Refusal) → r .outcome ≡ Refused f → returns (refusalTold f .number) rs ts (placed f) ≡ handedBack (answerOf r) rs ts fault
+  unfolding handedBack told refusalTold
+  refused BadShape o = rw o
+  refused UndefinedValue o = rw o
+  refused (NoConstant slot vec comp) o = rw o

@@ -17,20 +17,23 @@ stateIn registers truths = record { regs = registers; preds = truthsAt 7 0 truth
 unfoldable pub truthBytes : State → List ℕ
 truthBytes s = map truthByte (s .preds ++ s .flags)
 
--- the number that is returned, and what the two lists hold then
+-- the number that is returned, and what the two lists hold then, and slot, vec and comp
 pub record Answer : Type 0 where
   pub number : ℕ
   pub registers : List ℕ
   pub truths : List ℕ
+  pub fault : List ℕ
 
-abbrev pub returns : ℕ → List ℕ → List ℕ → Answer
-returns n rs ts = record { number = n; registers = rs; truths = ts }
+abbrev pub returns : ℕ → List ℕ → List ℕ → List ℕ → Answer
+returns n rs ts fault = record { number = n; registers = rs; truths = ts; fault = fault }
 
--- the number of the evaluation, and the state after it where that is 0; a refusal leaves both lists as they were
-unfoldable pub handedBack : Evaluation.Answer → List ℕ → List ℕ → Answer
-handedBack a rs ts = cond (eqb (a .number) 0) (returns (a .number) (a .state .regs) (truthBytes (a .state))) (returns (a .number) rs ts)
+-- the number of the evaluation, and the state after it where that is 0; a refusal leaves both lists as they were; 9 alone writes slot, vec and comp
+unfoldable pub handedBack : Evaluation.Answer → List ℕ → List ℕ → List ℕ → Answer
+handedBack a rs ts fault =
+    cond (eqb (a .number) 0) (returns (a .number) (a .state .regs) (truthBytes (a .state)) fault)
+    (returns (a .number) rs ts (cond (eqb (a .number) 9) (a .carried) fault))
 
 -- lists of another length hold no state
-unfoldable pub evaluateAnswer : List ℕ → List ℕ → List ℕ → List ℕ → Answer
-evaluateAnswer run rs ts constants =
-    cond (eqb (length rs) 255 && eqb (length ts) 11) (handedBack (evaluation run (stateIn rs ts) constants) rs ts) (returns 7 rs ts)
+unfoldable pub evaluateAnswer : List ℕ → List ℕ → List ℕ → List ℕ → List ℕ → Answer
+evaluateAnswer run rs ts constants fault =
+    cond (eqb (length rs) 255 && eqb (length ts) 11) (handedBack (evaluation run (stateIn rs ts) constants) rs ts fault) (returns 7 rs ts fault)

@@ -1,8 +1,10 @@
 // Evaluation with C linkage, on states in two lists. A library of its own: a second caller of the reader would make it slower (docs/DECISIONS.md).
 ghost use mathlib.Core.Path.{_≡_};
+ghost use mathlib.Core.List.{_∷_, []};
 ghost use lib.ListN.{length};
 ghost use Rattle.evaluation_host.specs.States.{stateIn, truthBytes, returns, evaluateAnswer};
 use evaluation::Outcome;
+use evaluation::Refusal;
 use evaluation::State;
 use truth_bytes::read_truths;
 use truth_bytes::write_truths;
@@ -52,14 +54,18 @@ fn state_out(state: State, registers: &mut [u32], truths: &mut [u8])
 
 // A run from a state, in place: 255 registers, and 11 bytes for the 7 predicates and the flags Z, S, C, O (nonzero is true, answered as 1).
 // 0 where the run was evaluated; 7, 8 or 9 where it was refused, and 7 for a wrong length; a refusal leaves registers and truths as they were.
+// Slot, vec and comp are written with 9 alone: what the address asked for. One match tells the cases: a second one costs a copy of the state.
 #[no_mangle]
 pub extern "C" fn mehkura_evaluate(
     run: &[u8],
     registers: &mut [u32],
     truths: &mut [u8],
     constants: &[u32],
+    slot: &mut u32,
+    vec: &mut u32,
+    comp: &mut u32,
 ) -> u32
-    ensures { λ r. ⌜ returns r (now (registers .exit)) (now (truths .exit)) ≡ evaluateAnswer (now (run .entry)) (now (registers .entry)) (now (truths .entry)) (now (constants .entry)) ⌝ }
+    ensures { λ r. ⌜ returns r (now (registers .exit)) (now (truths .exit)) (now (slot .exit) ∷ now (vec .exit) ∷ now (comp .exit) ∷ []) ≡ evaluateAnswer (now (run .entry)) (now (registers .entry)) (now (truths .entry)) (now (constants .entry)) (now (slot .entry) ∷ now (vec .entry) ∷ now (comp .entry) ∷ []) ⌝ }
 {
     if registers.len() != 255 {
         return 7;
@@ -75,6 +81,15 @@ pub extern "C" fn mehkura_evaluate(
             state_out(state, registers, truths);
             0
         }
-        Outcome::Refused(f) => evaluation::refusal_number(f),
+        Outcome::Refused(f) => match f {
+            Refusal::BadShape => 7,
+            Refusal::UndefinedValue => 8,
+            Refusal::NoConstant(s, v, c) => {
+                *slot = s as u32;
+                *vec = v;
+                *comp = c;
+                9
+            }
+        },
     }
 }

@@ -10,7 +10,6 @@ use lib.Signed.{ltZ}
 use borrow.Author.Tests.{ltb-true, ltb-false, eq-eqb, ne-eqb}
 use Rattle.evaluation.specs.declared.value.Value.the-variants.{Word, Truth}
 use Rattle.evaluation.specs.declared.state.State.{State}
-use Rattle.evaluation.specs.declared.machine.Refusal.the-variants.{NoConstant}
 use Rattle.evaluation.specs.Word.{sLess, binaryWord, compareWord, logicTruth}
 use Rattle.evaluation.specs.Value.{withWord, withTruth, negated, binary, compared, logic, two}
 use Rattle.evaluation.specs.State.{loaded}
@@ -27,7 +26,7 @@ use Rattle.meaning.specs.Meaning as M
 use Rattle.translation.proofs.Sem.{ran, halted, sem}
 use Rattle.meaning.proofs.Order.{sless-is, not-ltb, not-ltZ}
 use Rattle.translation.proofs.Stays.{Proper}
-use Rattle.meaning.proofs.Helper.{reg-word, operand-word, set-sem, setp-sem, srcB-sem, srcB-missing, srcBc-sem, srcBc-missing, setCcIf-sem, b2u-sem, missing, final, select-is, ra-sem, second-word, Gives, code-gives, truths, p-sem, chosen-word}
+use Rattle.meaning.proofs.Helper.{asked, reg-word, operand-word, set-sem, setp-sem, srcB-sem, srcB-missing, srcBc-sem, srcBc-missing, setCcIf-sem, b2u-sem, missing, final, select-is, ra-sem, second-word, Gives, code-gives, truths, p-sem, chosen-word}
 
 -- ---- two words: exactly one of less, equal and greater
 
@@ -275,20 +274,20 @@ module _ (cs : List ℕ) (i : Record) (s : State) where
         rw (ra-sem cs s i, srcBc-sem cs s i (M.opcode i 21312) (icmpWords (insn i)) (reg s (ra i)) h, icmpWords-sem _ _ _ (second-word cs s i (M.opcode i 21312) w)) refl
 
   module _ (h : missing cs i ≡ true) where
-    compare-missing : (pair : Bool) → sem cs (icompare pair (insn i)) [] s ≡ halted NoConstant s
+    compare-missing : (pair : Bool) → sem cs (icompare pair (insn i)) [] s ≡ halted (asked i) s
     unfolding icompare valueAt T.bits T.bit
     compare-missing pair = rw (ra-sem cs s i, srcB-missing cs s i h) refl
 
-    pub isetp-missing : sem cs (icompare true (insn i)) [] s ≡ halted NoConstant s
+    pub isetp-missing : sem cs (icompare true (insn i)) [] s ≡ halted (asked i) s
     isetp-missing = compare-missing true
 
-    pub iset-missing : sem cs (icompare false (insn i)) [] s ≡ halted NoConstant s
+    pub iset-missing : sem cs (icompare false (insn i)) [] s ≡ halted (asked i) s
     iset-missing = compare-missing false
 
-    pub imnmx-missing : sem cs (imnmx (insn i)) [] s ≡ halted NoConstant s
+    pub imnmx-missing : sem cs (imnmx (insn i)) [] s ≡ halted (asked i) s
     unfolding imnmx valueAt T.bits T.bit
     imnmx-missing = rw (ra-sem cs s i, srcB-missing cs s i h) refl
 
-    pub icmp-missing : sem cs (icmp (insn i)) [] s ≡ halted NoConstant s
+    pub icmp-missing : sem cs (icmp (insn i)) [] s ≡ halted (asked i) s
     unfolding icmp icmpBc icmpSwaps valueAt T.bits T.bit
     icmp-missing = rw (ra-sem cs s i, srcBc-missing cs s i (M.opcode i 21312) (icmpWords (insn i)) (reg s (ra i)) h) refl

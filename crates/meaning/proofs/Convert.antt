@@ -11,7 +11,6 @@ use lib.Signed.{leZ}
 use borrow.Author.Tests.{ltb-true, ltb-false, lt-ltb, le-ltb, eqb-true, eqb-false}
 use Rattle.evaluation.specs.declared.value.Value.the-variants.{Word}
 use Rattle.evaluation.specs.declared.state.State.{State}
-use Rattle.evaluation.specs.declared.machine.Refusal.the-variants.{NoConstant}
 use Rattle.evaluation.specs.Word.{sLess, sMin, uMax, sAbs, unaryWord, binaryWord, compareWord}
 use Rattle.evaluation.specs.Value.{withWord, unary, binary, compared, two, insertedValue}
 use Rattle.evaluation.specs.Machine.{oneEffect, fourEffect, valueAt, effectOf}
@@ -29,7 +28,7 @@ use Rattle.meaning.specs.Meaning as M
 use Rattle.translation.proofs.Sem.{ran, halted, sem}
 use Rattle.meaning.proofs.Order.{leb-iff, not-leb, negative-is}
 use Rattle.translation.proofs.Stays.{Proper}
-use Rattle.meaning.proofs.Helper.{reg-word, operand-word, set-sem, srcB-sem, srcB-missing, ineg-sem, missing, final, select-is, ra-sem, rb-sem, rc-sem, chosen-word, negate-word, Gives, code-gives, words}
+use Rattle.meaning.proofs.Helper.{asked, reg-word, operand-word, set-sem, srcB-sem, srcB-missing, ineg-sem, missing, final, select-is, ra-sem, rb-sem, rc-sem, chosen-word, negate-word, Gives, code-gives, words}
 use Rattle.meaning.proofs.Field.{word-lt, extracted-lt, whole-word, field-sem}
 use Rattle.meaning.proofs.Clamp.{clamp-signed, clamp-unsigned, clamp-positive, clamp-same}
 use Rattle.meaning.proofs.Compare.{smaller-is, greater-is, minimum-sem, maximum-sem}
@@ -315,6 +314,6 @@ module _ (cs : List ℕ) (i : Record) (s : State) where
       (rw (ineg-sem cs s, saturateIf-sem cs s (bit i 50) (bit i 13) (bit i 12) (bits i 8 2) (M.negateIf (bit i 45) a) hn)
       (rw (intSource-sem cs s (bits i 8 2) (bit i 12) 0 _ (clamp-word (bit i 50) (bit i 13) (bit i 12) (M.bitsOfSize (bits i 8 2)) (M.negateIf (bit i 45) a) hn) (omega arith) (and-false (eqb (bits i 8 2) 1)), set-sem cs s) refl))
 
-  pub i2i-missing : missing cs i ≡ true → sem cs (i2i (insn i)) [] s ≡ halted NoConstant s
+  pub i2i-missing : missing cs i ≡ true → sem cs (i2i (insn i)) [] s ≡ halted (asked i) s
   unfolding i2i valueAt T.bits T.bit
   i2i-missing h = rw (srcB-missing cs s i h) refl

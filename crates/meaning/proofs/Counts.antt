@@ -10,7 +10,6 @@ use lib.Dec.{eqb, leb}
 use borrow.Author.Tests.{leb-false, eqb-true, eqb-false}
 use Rattle.evaluation.specs.declared.value.Value.the-variants.{Word}
 use Rattle.evaluation.specs.declared.state.State.{State}
-use Rattle.evaluation.specs.declared.machine.Refusal.the-variants.{NoConstant}
 use Rattle.evaluation.specs.Word as E
 use Rattle.evaluation.specs.Value.{withWord, unary, binary, compared, two}
 use Rattle.evaluation.specs.Machine.{oneEffect, valueAt, effectOf}
@@ -24,7 +23,7 @@ use Rattle.meaning.specs.Meaning as M
 use Rattle.translation.proofs.Sem.{ran, halted, sem}
 use Rattle.meaning.proofs.Order.{not-leb}
 use Rattle.translation.proofs.Stays.{Proper}
-use Rattle.meaning.proofs.Helper.{operand-word, set-sem, srcB-sem, srcB-missing, missing, final, select-is, inot-sem, complement-word}
+use Rattle.meaning.proofs.Helper.{asked, operand-word, set-sem, srcB-sem, srcB-missing, missing, final, select-is, inot-sem, complement-word}
 use Rattle.meaning.proofs.Digits.{bit-zero, bit-suc, digit-is, top-bit}
 
 -- ---- the highest place
@@ -94,7 +93,7 @@ module _ (cs : List ℕ) (i : Record) (s : State) where
       let range = highest-range (bit i 48) b in
       rw (srcB-sem cs s i h, inot-sem cs s (bit i 40), findMsb-sem cs s (bit i 48) b hb, floShift-sem cs s (bit i 41) (M.highestPlace (bit i 48) b) range, set-sem cs) refl
 
-  pub flo-missing : missing cs i ≡ true → sem cs (A.flo (insn i)) [] s ≡ halted NoConstant s
+  pub flo-missing : missing cs i ≡ true → sem cs (A.flo (insn i)) [] s ≡ halted (asked i) s
   unfolding A.flo T.bits T.bit
   flo-missing h = rw (srcB-missing cs s i h) refl
 
@@ -102,6 +101,6 @@ module _ (cs : List ℕ) (i : Record) (s : State) where
   unfolding A.popc effectOf oneEffect unary E.unaryWord withWord valueAt T.bits T.bit
   popc-does h = rw (srcB-sem cs s i h, inot-sem cs s (bit i 40), counted-is 32, set-sem cs) refl
 
-  pub popc-missing : missing cs i ≡ true → sem cs (A.popc (insn i)) [] s ≡ halted NoConstant s
+  pub popc-missing : missing cs i ≡ true → sem cs (A.popc (insn i)) [] s ≡ halted (asked i) s
   unfolding A.popc T.bits T.bit
   popc-missing h = rw (srcB-missing cs s i h) refl

@@ -10,7 +10,6 @@ use borrow.Author.Tests.{leb-true, eqb-true}
 use Rattle.strip.proofs.Tests.{T-true, and-right, among, every, below}
 use Rattle.strip.proofs.Run.{Each}
 use Rattle.evaluation.specs.declared.state.State.{State}
-use Rattle.evaluation.specs.declared.machine.Refusal.the-variants.{NoConstant}
 use Rattle.translation.specs.Insn as T
 use Rattle.meaning.specs.Record.{Record}
 use Rattle.meaning.proofs.Reading.{insn}
@@ -19,7 +18,7 @@ use Rattle.translation.specs.Strip.{known, byteThree}
 use Rattle.meaning.specs.Meaning.{meant, mayRead, reads, lent}
 use Rattle.translation.proofs.Sem.{halted, sem}
 use Rattle.translation.proofs.Stays.{Proper}
-use Rattle.meaning.proofs.Helper.{final, missing}
+use Rattle.meaning.proofs.Helper.{asked, final, missing}
 use Rattle.meaning.proofs.Moves.{mov-does, mov-missing, mov32i-does, sel-does, sel-missing}
 use Rattle.meaning.proofs.Compare.{csetp-does, isetp-does, isetp-missing, iset-does, iset-missing, psetp-does, pset-does, imnmx-does, imnmx-missing, icmp-does, icmp-missing}
 use Rattle.meaning.proofs.Sums.{iadd-does, iadd-missing, iadd32i-does, iadd3-does, iadd3-missing, iscadd-does, iscadd-missing}
@@ -81,7 +80,7 @@ module _ (cs : List ℕ) (i : Record) (s : State) where
   Does k = Proper cs s → byteThree k (insn i) ≡ false → reads (of k) && not (lent cs i) ≡ false → final (sem cs (armOf k (insn i)) [] s) ≡ some (meant cs (of k) s)
 
   Misses : ℕ → Type 0
-  Misses k = reads (of k) && not (lent cs i) ≡ true → sem cs (armOf k (insn i)) [] s ≡ halted NoConstant s
+  Misses k = reads (of k) && not (lent cs i) ≡ true → sem cs (armOf k (insn i)) [] s ≡ halted (asked i) s
 
   arms-do : Each Does kinds
   unfolding Does armOf meant mayRead reads T.bits T.bit
@@ -157,6 +156,6 @@ module _ (cs : List ℕ) (i : Record) (s : State) where
   unfolding Does
   arm-does w h = member (Does cs i s) kinds (i .kind) (known-among (i .kind) h) (arms-do cs i s) w
 
-  pub arm-missing : known (i .kind) ≡ true → reads i && not (lent cs i) ≡ true → sem cs (armOf (i .kind) (insn i)) [] s ≡ halted NoConstant s
+  pub arm-missing : known (i .kind) ≡ true → reads i && not (lent cs i) ≡ true → sem cs (armOf (i .kind) (insn i)) [] s ≡ halted (asked i) s
   unfolding Misses
   arm-missing h = member (Misses cs i s) kinds (i .kind) (known-among (i .kind) h) (arms-miss cs i s)

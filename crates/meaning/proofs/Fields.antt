@@ -9,7 +9,6 @@ use lib.Bits.{and-mask}
 use borrow.Author.Tests.{le-leb}
 use Rattle.evaluation.specs.declared.value.Value.the-variants.{Word}
 use Rattle.evaluation.specs.declared.state.State.{State}
-use Rattle.evaluation.specs.declared.machine.Refusal.the-variants.{NoConstant}
 use Rattle.evaluation.specs.Word.{iSub, binaryWord, insertWord}
 use Rattle.evaluation.specs.Value.{withWord, binary, two, insertedValue}
 use Rattle.evaluation.specs.Machine.{fourEffect, valueAt, effectOf}
@@ -22,7 +21,7 @@ use Rattle.meaning.specs.Operand.{reg, setReg, operandB, wordB, wordC}
 use Rattle.meaning.specs.Meaning as M
 use Rattle.translation.proofs.Sem.{ran, halted, sem}
 use Rattle.translation.proofs.Stays.{Proper}
-use Rattle.meaning.proofs.Helper.{reg-word, set-sem, srcB-sem, srcB-missing, srcBc-sem, srcBc-missing, missing, final, ra-sem, second-word}
+use Rattle.meaning.proofs.Helper.{asked, reg-word, set-sem, srcB-sem, srcB-missing, srcBc-sem, srcBc-missing, missing, final, ra-sem, second-word}
 use Rattle.meaning.proofs.Field.{extract-sem}
 use Rattle.meaning.proofs.Digits.{inserted-is}
 use Rattle.meaning.proofs.Reverse.{reverseIf-sem, reverseIf-word}
@@ -69,7 +68,7 @@ module _ (cs : List ℕ) (i : Record) (s : State) where
       rw (ra-sem cs s i, srcB-sem cs s i h, reverseIf-sem cs s (bit i 40) (reg s (ra i)) ha)
       (rw (fieldAtB-sem cs s false (bit i 48) a a (operandB cs i s) (reverseIf-word (bit i 40) (reg s (ra i)) ha), set-sem cs s) refl)
 
-  pub bfe-missing : missing cs i ≡ true → sem cs (bfe (insn i)) [] s ≡ halted NoConstant s
+  pub bfe-missing : missing cs i ≡ true → sem cs (bfe (insn i)) [] s ≡ halted (asked i) s
   unfolding bfe valueAt T.bits T.bit
   bfe-missing h = rw (ra-sem cs s i, srcB-missing cs s i h) refl
 
@@ -85,6 +84,6 @@ module _ (cs : List ℕ) (i : Record) (s : State) where
       rw (ra-sem cs s i, srcBc-sem cs s i swap (bfiWords (insn i)) (reg s (ra i)) h)
       (rw (bfiWords-sem (reg s (ra i)) (wordB cs i swap s) (wordC cs i swap s) (second-word cs s i swap w)) refl)
 
-  pub bfi-missing : missing cs i ≡ true → sem cs (bfi (insn i)) [] s ≡ halted NoConstant s
+  pub bfi-missing : missing cs i ≡ true → sem cs (bfi (insn i)) [] s ≡ halted (asked i) s
   unfolding bfi bfiBc bfiSwaps valueAt T.bits T.bit
   bfi-missing h = rw (ra-sem cs s i, srcBc-missing cs s i (M.opcode i 21488) (bfiWords (insn i)) (reg s (ra i)) h) refl

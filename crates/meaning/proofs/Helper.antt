@@ -14,6 +14,7 @@ use Rattle.strip.specs.declared.reader.Entry.the-variants as Entry
 use Rattle.evaluation.specs.declared.value.Value.{Value}
 use Rattle.evaluation.specs.declared.value.Value.the-variants.{Word, Truth}
 use Rattle.evaluation.specs.declared.state.State.{State}
+use Rattle.evaluation.specs.declared.machine.Refusal.{Refusal}
 use Rattle.evaluation.specs.declared.machine.Refusal.the-variants.{NoConstant}
 use Rattle.evaluation.specs.Word.{notWord, unaryWord, binaryWord, compareWord}
 use Rattle.evaluation.specs.Value.{withWord, withTruth, withSlot, withAddress, unary, binary, compared, two, chosen, three}
@@ -40,6 +41,10 @@ use Rattle.meaning.proofs.Order.{negative-is}
 -- the constant that the second operand names is not lent
 abbrev pub missing : List ℕ → Record → Bool
 missing cs i = eqb (i .form) 1 && not (lent cs i)
+
+-- 9, with the slot, the vec and the comp of that constant
+abbrev pub asked : Record → Refusal
+asked i = NoConstant (constantSlot i) (constantWord i / 4) (constantWord i % 4)
 
 -- the state that code ends in
 abbrev pub final : Ran → Option State
@@ -164,7 +169,7 @@ module _ (cs : List ℕ) (s : State) where
     unfolding cbufImm cbufAt effectOf cellEffect two binary binaryWord withWord withSlot withAddress oneEffect fourEffect addressing addressWords fetched valueAt
     cbuf-lent h = rw (vec-is, comp-is, le-ltb 4095 (w / 4) (omega arith), le-ltb 3 (w % 4) (omega arith), place-is, h) (rw h refl)
 
-    cbuf-missing : ltb (n * 16384 + w) (length cs) ≡ false → sem cs (cbufImm n w) [] s ≡ halted NoConstant s
+    cbuf-missing : ltb (n * 16384 + w) (length cs) ≡ false → sem cs (cbufImm n w) [] s ≡ halted (NoConstant n (w / 4) (w % 4)) s
     unfolding cbufImm cbufAt effectOf cellEffect two binary binaryWord withWord withSlot withAddress oneEffect fourEffect addressing addressWords fetched valueAt
     cbuf-missing h = rw (vec-is, comp-is, le-ltb 4095 (w / 4) (omega arith), le-ltb 3 (w % 4) (omega arith), place-is, h) refl
 
@@ -172,7 +177,7 @@ module _ (cs : List ℕ) (s : State) where
     pub constant-sem : lent cs i ≡ true → sem cs (cbufImm (constantSlot i) (constantWord i)) [] s ≡ ran s (Word (constant cs i))
     constant-sem l = cbuf-lent (constantSlot i) (constantWord i) (bits-lt i 34 5) (bits-lt i 20 14) l
 
-    pub constant-missing : lent cs i ≡ false → sem cs (cbufImm (constantSlot i) (constantWord i)) [] s ≡ halted NoConstant s
+    pub constant-missing : lent cs i ≡ false → sem cs (cbufImm (constantSlot i) (constantWord i)) [] s ≡ halted (asked i) s
     constant-missing l = cbuf-missing (constantSlot i) (constantWord i) (bits-lt i 34 5) (bits-lt i 20 14) l
 
     -- ---- operands: b, missing where it is a constant that is not lent
@@ -189,12 +194,12 @@ module _ (cs : List ℕ) (s : State) where
         go false true false e h = absurd (true≢false h)
         go false false c e h = rw (simm20-same i) refl
 
-    pub srcB-missing : missing cs i ≡ true → sem cs (srcB (insn i)) [] s ≡ halted NoConstant s
+    pub srcB-missing : missing cs i ≡ true → sem cs (srcB (insn i)) [] s ≡ halted (asked i) s
     unfolding srcB T.bits T.bit
     srcB-missing h = go (i .form) refl h
       where
         go : (f : ℕ) → i .form ≡ f → eqb f 1 && not (lent cs i) ≡ true
-            → sem cs (ite (eqb f 0) (r (rb i)) (ite (eqb f 1) (cbufImm (constantSlot i) (constantWord i)) (op (Entry.Word (T.simm20 (insn i))) (ret 0)))) [] s ≡ halted NoConstant s
+            → sem cs (ite (eqb f 0) (r (rb i)) (ite (eqb f 1) (cbufImm (constantSlot i) (constantWord i)) (op (Entry.Word (T.simm20 (insn i))) (ret 0)))) [] s ≡ halted (asked i) s
         go f q h = rw (eqb-true f 1 (and-left (eqb f 1) _ h)) (constant-missing (not-true (lent cs i) (and-right (eqb f 1) _ h)))
 
     -- b and c, and what follows with a, b and c
@@ -219,11 +224,11 @@ module _ (cs : List ℕ) (s : State) where
               rw (rc-sem i, constant-sem l) refl
           go false e = rw (srcB-sem h, rc-sem i) refl
 
-      pub srcBc-missing : missing cs i ≡ true → sem cs (srcBc (insn i) swap k) (Word a ∷ []) s ≡ halted NoConstant s
+      pub srcBc-missing : missing cs i ≡ true → sem cs (srcBc (insn i) swap k) (Word a ∷ []) s ≡ halted (asked i) s
       unfolding srcBc valueAt T.bits T.bit
       srcBc-missing h = go (eqb (i .form) 1 && swap)
         where
-          go : (b : Bool) → sem cs (fetch b) (Word a ∷ []) s ≡ halted NoConstant s
+          go : (b : Bool) → sem cs (fetch b) (Word a ∷ []) s ≡ halted (asked i) s
           go true = rw (rc-sem i, constant-missing (not-true (lent cs i) (and-right (eqb (i .form) 1) _ h))) refl
           go false = rw (srcB-missing h) refl
 

@@ -12,11 +12,10 @@ use denote.Shadow.{shadow}
 use denote.Struct.Field.{u32-field}
 use borrow.Author.Tests.{le-leb}
 use Rattle.evaluation.specs.declared.state.State.{State}
-use Rattle.evaluation.specs.Machine.{Answer as EvaluationAnswer, ends, answerOf as evaluationAnswer, evaluation, numberOf, refusalNumber as evaluationNumber}
+use Rattle.evaluation.specs.Machine.{Answer, refusalTold, told, returns, ends, answerOf as evaluationAnswer, evaluation}
 use Rattle.evaluation.specs.declared.machine.Evaluated.{Evaluated}
 use Rattle.evaluation.specs.declared.machine.Outcome.{Outcome as EvaluationOutcome}
 use Rattle.evaluation.specs.declared.machine.Outcome.the-variants.{Done, Refused as EvaluationRefused}
-use Rattle.evaluation.specs.declared.machine.Refusal.the-variants.{NoConstant}
 use Rattle.translation.specs.declared.answer.Translated.{Translated}
 use Rattle.translation.specs.declared.answer.Outcome.{Outcome}
 use Rattle.translation.specs.declared.answer.Outcome.the-variants.{Written, Refused}
@@ -30,11 +29,12 @@ use Rattle.translation.proofs.Decided.{decided}
 use Rattle.translation.proofs.Shape.{accepted, accepted-strip}
 use Rattle.translation.proofs.Whole.{whole}
 use Rattle.meaning.specs.Record.{Record, recordOf}
-use Rattle.meaning.specs.Interpret.{refusalOf, refusal, unlent, returns, interpretation}
+use Rattle.meaning.specs.Interpret.{refusalOf, refusal, unlent, namedWord, interpretation}
 use Rattle.meaning.specs.Meaning.{meaning}
 use Rattle.translation.specs.Turn.{stripAt}
 use Rattle.meaning.proofs.Order.{not-leb}
 use Rattle.meaning.proofs.Reading.{insn, kind-same, insn-same}
+use Rattle.meaning.proofs.Helper.{asked}
 use Rattle.meaning.proofs.Means.{recordAnswer, record-means}
 
 -- ---- the refusals of a record are the translator's
@@ -77,7 +77,7 @@ number-is l m out h =
 -- ---- the answer
 
 module _ (l : List ℕ) (s : State) (ks : List ℕ) where
-  refused-with : (f : Refusal) → refusalNumber f ≡ refusal l → returns (refusalNumber f) s ≡ interpretation l s ks
+  refused-with : (f : Refusal) → refusalNumber f ≡ refusal l → returns (refusalNumber f) [] s ≡ interpretation l s ks
   unfolding interpretation refusalNumber
   refused-with BadLength e = rw (← e) refl
   refused-with UnknownKind e = rw (← e) refl
@@ -86,21 +86,20 @@ module _ (l : List ℕ) (s : State) (ks : List ℕ) where
   refused-with ByteThree e = rw (← e) refl
   refused-with NoRoom e = rw (← e) refl
 
-  evaluated-with : Proper ks s → admits l ≡ true → 0 ≡ refusal l
-      → returns (evaluation (stripAt l) s ks .number) (evaluation (stripAt l) s ks .state) ≡ interpretation l s ks
-  unfolding interpretation recordAnswer numberOf evaluationNumber
+  evaluated-with : Proper ks s → admits l ≡ true → 0 ≡ refusal l → evaluation (stripAt l) s ks ≡ interpretation l s ks
+  unfolding interpretation recordAnswer namedWord told refusalTold
   evaluated-with w h e = rw (← e, record-means ks l s w h) (go (unlent ks (recordOf l) s))
     where
       go : (b : Bool)
-          → returns (numberOf (cond b (ends (EvaluationRefused NoConstant) s) (ends Done (meaning ks (recordOf l) s)) .outcome)) (cond b (ends (EvaluationRefused NoConstant) s) (ends Done (meaning ks (recordOf l) s)) .state)
-          ≡ cond b (returns 9 s) (returns 0 (meaning ks (recordOf l) s))
+          → evaluationAnswer (cond b (ends (EvaluationRefused (asked (recordOf l))) s) (ends Done (meaning ks (recordOf l) s)))
+          ≡ cond b (returns 9 (namedWord (recordOf l)) s) (returns 0 [] (meaning ks (recordOf l) s))
       go true = refl
       go false = refl
 
 -- what the code learns of an evaluation
 pub evaluated-told : (e : Evaluated) (o : EvaluationOutcome) (run : List ℕ) (s : State) (ks : List ℕ) → e .outcome ≡ o → evaluationAnswer e ≡ evaluation run s ks
-    → returns (numberOf o) (e .state) ≡ returns (evaluation run s ks .number) (evaluation run s ks .state)
-evaluated-told e o run s ks q h = ap (λ (x : EvaluationOutcome). returns (numberOf x) (e .state)) (sym q) ∙ ap (λ (a : EvaluationAnswer). returns (a .number) (a .state)) h
+    → returns (told o .number) (told o .carried) (e .state) ≡ evaluation run s ks
+evaluated-told e o run s ks q h = ap (λ (x : EvaluationOutcome). returns (told x .number) (told x .carried) (e .state)) (sym q) ∙ h
 
 -- and of a translation into a room of 256 bytes
 module _ (l m out out′ : List ℕ) (t : Translated) (h : length out ≡ 256) (h′ : answerOf (translated t out′) ≡ translation l m out) where
@@ -119,13 +118,13 @@ module _ (l m out out′ : List ℕ) (t : Translated) (h : length out ≡ 256) (
   written-strip : (n : ℕ) → t .outcome ≡ Written n → take n out′ ≡ stripAt l
   written-strip n q = ap (λ (a : Decision). take n (a .out)) e ∙ accepted-strip l m out n (outcome-is (Written n) q)
 
-  pub refused-interpreted : (s : State) (ks : List ℕ) (f : Refusal) → t .outcome ≡ Refused f → returns (refusalNumber f) s ≡ interpretation l s ks
+  pub refused-interpreted : (s : State) (ks : List ℕ) (f : Refusal) → t .outcome ≡ Refused f → returns (refusalNumber f) [] s ≡ interpretation l s ks
   unfolding outcomeNumber
   refused-interpreted s ks f q = refused-with l s ks f (number-told (Refused f) q)
 
   -- the run is the room's part from 0 to n
   pub written-interpreted : (s : State) (ks : List ℕ) → Proper ks s → (n : ℕ) → t .outcome ≡ Written n
-      → returns (evaluation (take (n - 0) out′) s ks .number) (evaluation (take (n - 0) out′) s ks .state) ≡ interpretation l s ks
+      → evaluation (take (n - 0) out′) s ks ≡ interpretation l s ks
   unfolding outcomeNumber
   written-interpreted s ks w n q =
       let z : n - 0 ≡ n = omega arith in

@@ -10,7 +10,6 @@ use lib.Dec.{eqb}
 use lib.Bits.{bitAnd, bitOr, bitXor, or-lt, xor-lt, and-le-l, and-le-r}
 use Rattle.evaluation.specs.declared.value.Value.the-variants.{Word, Truth}
 use Rattle.evaluation.specs.declared.state.State.{State}
-use Rattle.evaluation.specs.declared.machine.Refusal.the-variants.{NoConstant}
 use Rattle.evaluation.specs.Word.{notWord, unaryWord, binaryWord, compareWord}
 use Rattle.evaluation.specs.Value.{withWord, unary, binary, compared, two}
 use Rattle.evaluation.specs.Machine.{bareEffect, oneEffect, valueAt, effectOf}
@@ -25,7 +24,7 @@ use Rattle.meaning.specs.Operand.{reg, setPred, operandB}
 use Rattle.meaning.specs.Meaning as M
 use Rattle.translation.proofs.Sem.{ran, halted, sem}
 use Rattle.translation.proofs.Stays.{Proper}
-use Rattle.meaning.proofs.Helper.{reg-word, operand-word, set-sem, setp-sem, srcB-sem, srcB-missing, missing, final, setCcIf-sem, inot-sem, ra-sem, rc-sem, complement-word, Gives, code-gives, words}
+use Rattle.meaning.proofs.Helper.{asked, reg-word, operand-word, set-sem, setp-sem, srcB-sem, srcB-missing, missing, final, setCcIf-sem, inot-sem, ra-sem, rc-sem, complement-word, Gives, code-gives, words}
 use Rattle.meaning.proofs.Digits.{from-lt, from-bits, bit-none, bit-and, bit-or, bit-xor, bit-not, digit-is}
 
 -- ---- two words
@@ -110,7 +109,7 @@ module _ (cs : List ℕ) (i : Record) (s : State) where
         set-sem cs,
       ) refl
 
-  pub lop-missing : missing cs i ≡ true → sem cs (A.lop (insn i)) [] s ≡ halted NoConstant s
+  pub lop-missing : missing cs i ≡ true → sem cs (A.lop (insn i)) [] s ≡ halted (asked i) s
   unfolding A.lop T.bits T.bit
   lop-missing h = rw (srcB-missing cs s i h) refl
 
@@ -241,6 +240,6 @@ module _ (cs : List ℕ) (i : Record) (s : State) where
       let hc = reg-word cs s (rc i) w in
       rw (ra-sem cs s i, srcB-sem cs s i h, rc-sem cs s i, lop3-sem cs s, set-sem cs) refl
 
-  pub lop3Arm-missing : missing cs i ≡ true → sem cs (A.lop3Arm (insn i)) [] s ≡ halted NoConstant s
+  pub lop3Arm-missing : missing cs i ≡ true → sem cs (A.lop3Arm (insn i)) [] s ≡ halted (asked i) s
   unfolding A.lop3Arm valueAt T.bits T.bit
   lop3Arm-missing h = rw (ra-sem cs s i, srcB-missing cs s i h) refl

@@ -16,7 +16,6 @@ use Rattle.strip.proofs.Run.{Each, Strip, strips-run, strips-shape}
 use Rattle.evaluation.specs.declared.state.State.{State}
 use Rattle.evaluation.specs.declared.machine.Outcome.{Outcome}
 use Rattle.evaluation.specs.declared.machine.Outcome.the-variants.{Done, Refused}
-use Rattle.evaluation.specs.declared.machine.Refusal.the-variants.{NoConstant}
 use Rattle.evaluation.specs.declared.machine.Evaluated.{Evaluated}
 use Rattle.evaluation.specs.Machine.{isDone, begun, ends, onward, entriesFrom, stripsFrom, restored, evaluated, valueAt}
 use Rattle.evaluation.proofs.Flat.{evaluated-strips}
@@ -34,15 +33,15 @@ use Rattle.translation.specs.Turn.{stripAt, runOf}
 use Rattle.meaning.proofs.Reading.{insn, kind-same, insn-same}
 use Rattle.translation.proofs.Sem.{Ran, ran, halted, sem}
 use Rattle.translation.proofs.Evaluated.{predicateAt, stripAnswer, strip-evaluated}
-use Rattle.meaning.proofs.Helper.{final}
+use Rattle.meaning.proofs.Helper.{asked, final}
 use Rattle.translation.proofs.Stays.{Proper, Stays, stays}
 use Rattle.meaning.proofs.EveryArm.{arm-does, arm-missing}
 
 -- ---- one record
 
--- what evaluating a record's strip answers: 9 where a word is not lent, else its meaning
+-- what evaluating a record's strip answers: 9 with the word that the record names where that is not lent, else its meaning
 unfoldable pub recordAnswer : List ℕ → Record → State → Evaluated
-recordAnswer ks i s = cond (unlent ks i s) (ends (Refused NoConstant) s) (ends Done (meaning ks i s))
+recordAnswer ks i s = cond (unlent ks i s) (ends (Refused (asked i)) s) (ends Done (meaning ks i s))
 
 final-answer : (s t : State) (r : Ran) → final r ≡ some t → stripAnswer s r ≡ ends Done t
 final-answer s t (ran u v) e = let q : u ≡ t = cc in rw q refl
@@ -62,7 +61,7 @@ module _ (cs : List ℕ) (i : Record) (s : State) (w : Proper cs s) (hk : known 
   strip-means = strip-evaluated cs (i .kind) (insn i) s ∙ go (runs i s) (reads i && not (lent cs i)) refl
     where
       go : (b m : Bool) → reads i && not (lent cs i) ≡ m
-          → cond b (stripAnswer s arm) (ends Done s) ≡ cond (b && m) (ends (Refused NoConstant) s) (ends Done (cond b (meant cs i s) s))
+          → cond b (stripAnswer s arm) (ends Done s) ≡ cond (b && m) (ends (Refused (asked i)) s) (ends Done (cond b (meant cs i s) s))
       go false m e = refl
       go true true e = rw (arm-missing cs i s hk e) refl
       go true false e = final-answer s (meant cs i s) arm (arm-does cs i s w hk hb e)
@@ -96,7 +95,7 @@ record-means cs l s w h = let a = admits-known l h in ap (λ (x : List ℕ). eva
 
 -- ---- a run
 
-answer-unlent : (cs : List ℕ) (i : Record) (s : State) → unlent cs i s ≡ true → recordAnswer cs i s ≡ ends (Refused NoConstant) s
+answer-unlent : (cs : List ℕ) (i : Record) (s : State) → unlent cs i s ≡ true → recordAnswer cs i s ≡ ends (Refused (asked i)) s
 unfolding recordAnswer
 answer-unlent cs i s e = rw e refl
 

@@ -5,7 +5,6 @@ use mathlib.Core.List.{List, []}
 use mathlib.Core.Option.{some}
 use Prim.Native.Nat.{ℕ}
 use Rattle.evaluation.specs.declared.state.State.{State}
-use Rattle.evaluation.specs.declared.machine.Refusal.the-variants.{NoConstant}
 use Rattle.evaluation.specs.Machine.{valueAt, effectOf}
 use Rattle.translation.specs.Insn as T
 use Rattle.meaning.specs.Record.{Record}
@@ -13,7 +12,7 @@ use Rattle.meaning.proofs.Reading.{insn}
 use Rattle.translation.specs.Arms.{mov, mov32i, sel}
 use Rattle.meaning.specs.Meaning as M
 use Rattle.translation.proofs.Sem.{halted, sem}
-use Rattle.meaning.proofs.Helper.{set-sem, srcB-sem, srcB-missing, missing, final, select-is, ra-sem, p-sem}
+use Rattle.meaning.proofs.Helper.{asked, set-sem, srcB-sem, srcB-missing, missing, final, select-is, ra-sem, p-sem}
 
 module _ (cs : List ℕ) (i : Record) (s : State) where
   module _ (h : missing cs i ≡ false) where
@@ -30,10 +29,10 @@ module _ (cs : List ℕ) (i : Record) (s : State) where
   mov32i-does = rw (set-sem cs s) refl
 
   module _ (h : missing cs i ≡ true) where
-    pub mov-missing : sem cs (mov (insn i)) [] s ≡ halted NoConstant s
+    pub mov-missing : sem cs (mov (insn i)) [] s ≡ halted (asked i) s
     unfolding mov valueAt T.bits T.bit
     mov-missing = rw (srcB-missing cs s i h) refl
 
-    pub sel-missing : sem cs (sel (insn i)) [] s ≡ halted NoConstant s
+    pub sel-missing : sem cs (sel (insn i)) [] s ≡ halted (asked i) s
     unfolding sel valueAt T.bits T.bit
     sel-missing = rw (p-sem cs s i 39 42, ra-sem cs s i, srcB-missing cs s i h) refl

@@ -13,7 +13,6 @@ use borrow.Author.Tests.{ltb-true, ltb-false, eqb-true}
 use Rattle.strip.proofs.Tests.{and-left}
 use Rattle.evaluation.specs.declared.value.Value.the-variants.{Word}
 use Rattle.evaluation.specs.declared.state.State.{State}
-use Rattle.evaluation.specs.declared.machine.Refusal.the-variants.{NoConstant}
 use Rattle.evaluation.specs.Word.{binaryWord}
 use Rattle.evaluation.specs.Value.{withWord, binary, two}
 use Rattle.evaluation.specs.Machine.{cellEffect, valueAt, effectOf}
@@ -25,7 +24,7 @@ use Rattle.meaning.specs.Number.{wordOf, extracted}
 use Rattle.meaning.specs.Operand.{reg, setReg, constant, wordC}
 use Rattle.meaning.specs.Meaning as M
 use Rattle.translation.proofs.Sem.{ran, halted, sem}
-use Rattle.meaning.proofs.Helper.{set-sem, srcBc-sem, srcBc-missing, missing, final, ra-sem, rc-sem}
+use Rattle.meaning.proofs.Helper.{asked, set-sem, srcBc-sem, srcBc-missing, missing, final, ra-sem, rc-sem}
 use Rattle.meaning.proofs.Field.{half16-sem}
 
 -- ---- words of integers
@@ -179,7 +178,7 @@ module _ (cs : List ℕ) (s : State) where
           go true e = rw (e, third-is e, rc-sem cs s i, xmadWords-sem) refl
           go false e = rw (e, srcBc-sem cs s i (M.xmadSwaps i) (xmadWords (insn i)) a h, xmadWords-sem) refl
 
-      xmadFetch-missing : missing cs i ≡ true → sem cs (xmadFetch (insn i)) (Word a ∷ []) s ≡ halted NoConstant s
+      xmadFetch-missing : missing cs i ≡ true → sem cs (xmadFetch (insn i)) (Word a ∷ []) s ≡ halted (asked i) s
       unfolding xmadFetch xmadBc T.bits T.bit
       xmadFetch-missing h =
           let e = eqb-true (i .form) 1 (and-left (eqb (i .form) 1) _ h) in
@@ -193,6 +192,6 @@ module _ (cs : List ℕ) (i : Record) (s : State) where
   unfolding xmad valueAt T.bits T.bit
   xmad-does h = rw (ra-sem cs s i, xmadFetch-sem cs s i (reg s (ra i)) h) refl
 
-  pub xmad-missing : missing cs i ≡ true → sem cs (xmad (insn i)) [] s ≡ halted NoConstant s
+  pub xmad-missing : missing cs i ≡ true → sem cs (xmad (insn i)) [] s ≡ halted (asked i) s
   unfolding xmad valueAt T.bits T.bit
   xmad-missing h = rw (ra-sem cs s i, xmadFetch-missing cs s i (reg s (ra i)) h) refl

@@ -14,7 +14,6 @@ use borrow.Author.Tests.{ltb-true, ltb-false, lt-ltb, le-ltb, le-leb, lt-leb, eq
 use Rattle.evaluation.specs.declared.value.Value.{Value}
 use Rattle.evaluation.specs.declared.value.Value.the-variants.{Word}
 use Rattle.evaluation.specs.declared.state.State.{State}
-use Rattle.evaluation.specs.declared.machine.Refusal.the-variants.{NoConstant}
 use Rattle.evaluation.specs.Word.{unaryWord, binaryWord, compareWord}
 use Rattle.evaluation.specs.Value.{withWord, withTruth, unary, binary, compared, two, chosen, three}
 use Rattle.evaluation.specs.Machine.{oneEffect, valueAt, effectOf}
@@ -30,7 +29,7 @@ use Rattle.meaning.specs.Operand.{reg, setReg, constant, operandB}
 use Rattle.meaning.specs.Meaning as M
 use Rattle.translation.proofs.Sem.{ran, halted, sem}
 use Rattle.translation.proofs.Stays.{Proper}
-use Rattle.meaning.proofs.Helper.{reg-word, set-sem, srcB-sem, srcB-missing, missing, final, select-is, ineg-sem, ra-sem, rb-sem, rc-sem, noteUnless-sem, negate-word, constant-sem, constant-missing}
+use Rattle.meaning.proofs.Helper.{asked, reg-word, set-sem, srcB-sem, srcB-missing, missing, final, select-is, ineg-sem, ra-sem, rb-sem, rc-sem, noteUnless-sem, negate-word, constant-sem, constant-missing}
 use Rattle.meaning.proofs.Reverse.{reverseIf-sem, reverseIf-word}
 use Rattle.meaning.proofs.Carry.{add-wrapped}
 use Rattle.meaning.proofs.Order.{umin-is}
@@ -138,7 +137,7 @@ module _ (cs : List ℕ) (i : Record) (s : State) where
   shl-does h w =
       rw (ra-sem cs s i, srcB-sem cs s i h, shift-left cs s (bit i 39) _ _ (reg-word cs s (ra i) w), set-sem cs s) refl
 
-  pub shl-missing : missing cs i ≡ true → sem cs (shl (insn i)) [] s ≡ halted NoConstant s
+  pub shl-missing : missing cs i ≡ true → sem cs (shl (insn i)) [] s ≡ halted (asked i) s
   unfolding shl valueAt T.bits T.bit
   shl-missing h = rw (ra-sem cs s i, srcB-missing cs s i h) refl
 
@@ -149,7 +148,7 @@ module _ (cs : List ℕ) (i : Record) (s : State) where
       let l = reverseIf-word (bit i 40) (reg s (ra i)) k in
       rw (ra-sem cs s i, srcB-sem cs s i h, reverseIf-sem cs s _ _ k, shift-right cs s _ _ _ _ l, set-sem cs s) refl
 
-  pub shr-missing : missing cs i ≡ true → sem cs (shr (insn i)) [] s ≡ halted NoConstant s
+  pub shr-missing : missing cs i ≡ true → sem cs (shr (insn i)) [] s ≡ halted (asked i) s
   unfolding shr valueAt T.bits T.bit
   shr-missing h = rw (ra-sem cs s i, srcB-missing cs s i h) refl
 
@@ -256,7 +255,7 @@ module _ (cs : List ℕ) (i : Record) (s : State) where
       let l = reg-word cs s (rc i) w in
       rw (ra-sem cs s i, srcB-sem cs s i h, rc-sem cs s i, shfWords-sem cs s i _ _ _ k l) refl
 
-  pub shf-missing : missing cs i ≡ true → sem cs (shf (insn i)) [] s ≡ halted NoConstant s
+  pub shf-missing : missing cs i ≡ true → sem cs (shf (insn i)) [] s ≡ halted (asked i) s
   unfolding shf valueAt T.bits T.bit
   shf-missing h = rw (ra-sem cs s i, srcB-missing cs s i h) refl
 
@@ -310,7 +309,7 @@ module _ (cs : List ℕ) (i : Record) (s : State) where
       go false true false e k = absurd (true≢false k)
       go false false c e k = srcB-sem cs s i (rw e k)
 
-  leaB-missing : M.leaReads i && not (M.lent cs i) ≡ true → sem cs (leaB (insn i)) [] s ≡ halted NoConstant s
+  leaB-missing : M.leaReads i && not (M.lent cs i) ≡ true → sem cs (leaB (insn i)) [] s ≡ halted (asked i) s
   unfolding leaB leaReg leaCbuf T.bits T.bit
   leaB-missing h = go (M.leaReg i) (M.leaConstant i) (M.lent cs i) refl refl refl h
     where
@@ -319,7 +318,7 @@ module _ (cs : List ℕ) (i : Record) (s : State) where
       both e f = let p = eqb-true (i .value) (23512 * 2 ^ 48) e in let q = eqb-true (i .value) (6144 * 2 ^ 48) f in omega arith
 
       go : (a b c : Bool) → M.leaReg i ≡ a → M.leaConstant i ≡ b → M.lent cs i ≡ c → (b || (not a && eqb (i .form) 1)) && not c ≡ true
-          → sem cs (ite a (r (rb i)) (ite b (cbufImm (constantSlot i) (constantWord i)) (srcB (insn i)))) [] s ≡ halted NoConstant s
+          → sem cs (ite a (r (rb i)) (ite b (cbufImm (constantSlot i) (constantWord i)) (srcB (insn i)))) [] s ≡ halted (asked i) s
       go true true c e f l k = absurd (both e f)
       go true false c e f l k = absurd (false≢true k)
       go false true true e f l k = absurd (false≢true k)
@@ -347,6 +346,6 @@ module _ (cs : List ℕ) (i : Record) (s : State) where
       rw (ra-sem cs s i, leaB-sem h, ineg-sem cs s, leaWord-sem _ k w, lea-is, set-sem cs s)
       (unfold leaHigh leaShift leaReg leaCbuf in refl)
 
-  pub lea-missing : M.leaReads i && not (M.lent cs i) ≡ true → sem cs (lea (insn i)) [] s ≡ halted NoConstant s
+  pub lea-missing : M.leaReads i && not (M.lent cs i) ≡ true → sem cs (lea (insn i)) [] s ≡ halted (asked i) s
   unfolding lea valueAt T.bits T.bit
   lea-missing h = rw (ra-sem cs s i, leaB-missing h) refl

@@ -11,7 +11,6 @@ use Rattle.strip.proofs.Tests.{and-left}
 use Rattle.evaluation.specs.declared.value.Value.{Value}
 use Rattle.evaluation.specs.declared.value.Value.the-variants.{Word, Truth}
 use Rattle.evaluation.specs.declared.state.State.{State}
-use Rattle.evaluation.specs.declared.machine.Refusal.the-variants.{NoConstant}
 use Rattle.evaluation.specs.Word.{binaryWord, compareWord, logicTruth}
 use Rattle.evaluation.specs.Value.{withWord, withTruth, binary, compared, logic, two}
 use Rattle.evaluation.specs.State.{loaded}
@@ -26,7 +25,7 @@ use Rattle.meaning.specs.Operand.{reg, flag, operandB, half}
 use Rattle.meaning.specs.Meaning as M
 use Rattle.translation.proofs.Sem.{Ran, ran, halted, followed, sem}
 use Rattle.translation.proofs.Stays.{Proper}
-use Rattle.meaning.proofs.Helper.{reg-word, operand-word, set-sem, srcB-sem, srcB-missing, missing, final, select-is, setCc-sem, b2u-sem, inot-sem, ineg-sem, ra-sem, rb-sem, rc-sem, complement-word, negate-word, Gives, code-gives, words, chosen-word}
+use Rattle.meaning.proofs.Helper.{asked, reg-word, operand-word, set-sem, srcB-sem, srcB-missing, missing, final, select-is, setCc-sem, b2u-sem, inot-sem, ineg-sem, ra-sem, rb-sem, rc-sem, complement-word, negate-word, Gives, code-gives, words, chosen-word}
 use Rattle.meaning.proofs.Field.{extracted-lt, half16-sem}
 use Rattle.meaning.proofs.Carry.{wrap-word, add-none, add-wrapped, carry-is, carry-none, overflow-is, clamp-is}
 
@@ -145,7 +144,7 @@ module _ (cs : List ℕ) (i : Record) (s : State) where
       let e = iaddWords-sem cs s w (reg s (ra i)) (operandB cs i s) (reg-word cs s (ra i) w) (operand-word cs s i w) in
       rw (ra-sem cs s i, srcB-sem cs s i h, e (rd i) (bit i 49) (bit i 48) (bit i 43) (bit i 47) (bit i 50)) refl
 
-  pub iadd-missing : missing cs i ≡ true → sem cs (iadd (insn i)) [] s ≡ halted NoConstant s
+  pub iadd-missing : missing cs i ≡ true → sem cs (iadd (insn i)) [] s ≡ halted (asked i) s
   unfolding iadd valueAt T.bits T.bit
   iadd-missing h = rw (ra-sem cs s i, srcB-missing cs s i h) refl
 
@@ -244,7 +243,7 @@ module _ (cs : List ℕ) (i : Record) (s : State) where
             (rw (halfSelect-sem cs s (bits i 35 2), halfSelect-sem cs s (bits i 33 2), halfSelect-sem cs s (bits i 31 2)) refl)
         go false e = rw (e, srcB-sem cs s i h, rc-sem cs s i) refl
 
-    iadd3Fetch-missing : missing cs i ≡ true → sem cs (iadd3Fetch (insn i)) (Word a ∷ []) s ≡ halted NoConstant s
+    iadd3Fetch-missing : missing cs i ≡ true → sem cs (iadd3Fetch (insn i)) (Word a ∷ []) s ≡ halted (asked i) s
     unfolding iadd3Fetch valueAt T.bits T.bit
     iadd3Fetch-missing h = rw (not-reg (i .form) (and-left (eqb (i .form) 1) _ h), srcB-missing cs s i h) refl
 
@@ -254,7 +253,7 @@ module _ (cs : List ℕ) (i : Record) (s : State) where
       let hc = part-word i (bits i 31 2) (reg s (rc i)) (reg-word cs s (rc i) w) in
       rw (ra-sem cs s i, iadd3Fetch-sem (reg s (ra i)) h, iadd3Words-sem w _ _ _ hc) refl
 
-  pub iadd3-missing : missing cs i ≡ true → sem cs (iadd3 (insn i)) [] s ≡ halted NoConstant s
+  pub iadd3-missing : missing cs i ≡ true → sem cs (iadd3 (insn i)) [] s ≡ halted (asked i) s
   unfolding iadd3 valueAt T.bits T.bit
   iadd3-missing h = rw (ra-sem cs s i, iadd3Fetch-missing (reg s (ra i)) h) refl
 
@@ -267,6 +266,6 @@ module _ (cs : List ℕ) (i : Record) (s : State) where
       rw (ra-sem cs s i, ineg-sem cs s, srcB-sem cs s i h, ineg-sem cs s, lt-ltb (bits i 39 5) 32 (bits-lt i 39 5))
       (rw (add-wrapped (M.negateIf (bit i 49) (reg s (ra i)) * 2 ^ bits i 39 5), set-sem cs s) refl)
 
-  pub iscadd-missing : missing cs i ≡ true → sem cs (iscadd (insn i)) [] s ≡ halted NoConstant s
+  pub iscadd-missing : missing cs i ≡ true → sem cs (iscadd (insn i)) [] s ≡ halted (asked i) s
   unfolding iscadd valueAt T.bits T.bit
   iscadd-missing h = rw (ra-sem cs s i, ineg-sem cs s, srcB-missing cs s i h) refl

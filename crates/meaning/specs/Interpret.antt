@@ -1,14 +1,15 @@
 -- What interpreting a record answers (01, 'Who can cause a refusal'), and what a list of records means, one after another.
 use mathlib.Core.Bool.{Bool, cond, not, _&&_}
 use mathlib.Core.List.{List, [], _∷_}
-use Prim.Native.Nat.{ℕ}
+use Prim.Native.Nat.{ℕ, _/_, _%_}
 use lib.Dec.{eqb, leb}
 use lib.ListN.{length}
 use Rattle.evaluation.specs.declared.state.State.{State}
+use Rattle.evaluation.specs.Machine.{Told, tells, Answer, returns}
 use Rattle.meaning.specs.declared.interpreter.Outcome.{Outcome}
-use Rattle.meaning.specs.declared.interpreter.Outcome.the-variants.{Done, Refused}
+use Rattle.meaning.specs.declared.interpreter.Outcome.the-variants.{Done, Refused, NoConstant}
 use Rattle.meaning.specs.declared.interpreter.Interpreted.{Interpreted}
-use Rattle.meaning.specs.Record.{Record, recordOf, bits}
+use Rattle.meaning.specs.Record.{Record, recordOf, bits, constantSlot, constantWord}
 use Rattle.meaning.specs.Meaning.{opcode, runs, meaning, reads, lent}
 
 -- 01's number of the first refusal that holds of a record, of 2 to 5; 0 of one that 01 admits
@@ -29,27 +30,25 @@ refusal l = cond (eqb (length l) 18) (refusalOf (recordOf l)) 1
 unfoldable pub unlent : List ℕ → Record → State → Bool
 unlent ks i s = runs i s && (reads i && not (lent ks i))
 
--- the number of the refusal, 0 where there is none, and the state: that of the meaning, or the start where the record is refused
-pub record Answer : Type 0 where
-  pub number : ℕ
-  pub state : State
+-- the constant word that a record names: its slot, vec and comp
+unfoldable pub namedWord : Record → List ℕ
+namedWord i = constantSlot i ∷ constantWord i / 4 ∷ constantWord i % 4 ∷ []
 
-abbrev pub returns : ℕ → State → Answer
-returns n s = record { number = n; state = s }
-
--- of what the code hands back
-unfoldable pub numberOf : Outcome → ℕ
-numberOf Done = 0
-numberOf (Refused n) = n
+-- what is told of the code's outcome: the number of the refusal, 0 where there is none, and with 9 the slot, the vec and the comp
+unfoldable pub told : Outcome → Told
+told Done = tells 0 []
+told (Refused n) = tells n []
+told (NoConstant slot vec comp) = tells 9 (slot ∷ vec ∷ comp ∷ [])
 
 abbrev pub answerOf : Interpreted → Answer
-answerOf r = returns (numberOf (r .outcome)) (r .state)
+answerOf r = returns (told (r .outcome) .number) (told (r .outcome) .carried) (r .state)
 
+-- the state is that of the meaning, or the start where the record is refused
 unfoldable pub interpretation : List ℕ → State → List ℕ → Answer
 interpretation l s ks =
     cond (eqb (refusal l) 0)
-    (cond (unlent ks (recordOf l) s) (returns 9 s) (returns 0 (meaning ks (recordOf l) s)))
-    (returns (refusal l) s)
+    (cond (unlent ks (recordOf l) s) (returns 9 (namedWord (recordOf l)) s) (returns 0 [] (meaning ks (recordOf l) s)))
+    (returns (refusal l) [] s)
 
 -- the meanings of records, one after another
 unfoldable pub meanings : List ℕ → List (List ℕ) → State → State

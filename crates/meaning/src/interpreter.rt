@@ -1,13 +1,16 @@
 // A record on a state: it is translated and its strip evaluated, and what comes back is what the record means.
 ghost use mathlib.Core.Path.{_≡_};
 ghost use Rattle.evaluation.specs.Machine.{evaluation};
-ghost use Rattle.meaning.specs.Interpret.{numberOf, returns, answerOf, interpretation};
+ghost use Rattle.meaning.specs.Interpret.{told, answerOf, interpretation};
+use evaluation::Refusal;
 use evaluation::State;
 
 pub enum Outcome {
     Done,
-    // 01's number: 1 to 5 where the record is refused, 9 where the word that it reads is not lent.
+    // 01's number of the record's refusal, 1 to 5.
     Refused(u32),
+    // 9: the word that the record reads is not lent. Its slot, vec and comp.
+    NoConstant(u8, u32, u32),
 }
 
 // The state of the meaning, or the given one where the record is refused.
@@ -18,11 +21,12 @@ pub struct Interpreted {
 
 // 01's number, 0 where nothing is refused.
 pub fn outcome_number(o: Outcome) -> u32
-    ensures { λ n. ⌜ n ≡ numberOf o ⌝ }
+    ensures { λ n. ⌜ n ≡ told o .number ⌝ }
 {
     match o {
         Outcome::Done => 0,
         Outcome::Refused(n) => n,
+        Outcome::NoConstant(_, _, _) => 9,
     }
 }
 
@@ -37,7 +41,7 @@ fn refused(state: State, number: u32) -> Interpreted
 
 // A strip from a state.
 fn evaluate(run: &[u8], state: State, constants: &[u32]) -> Interpreted
-    ensures { λ r. ⌜ answerOf r ≡ returns (evaluation (now (run .entry)) state (now (constants .entry)) .number) (evaluation (now (run .entry)) state (now (constants .entry)) .state) ⌝ }
+    ensures { λ r. ⌜ answerOf r ≡ evaluation (now (run .entry)) state (now (constants .entry)) ⌝ }
 {
     let e = evaluation::evaluate(run, state, constants);
     let o = e.outcome;
@@ -47,7 +51,14 @@ fn evaluate(run: &[u8], state: State, constants: &[u32]) -> Interpreted
             state: after,
             outcome: Outcome::Done,
         },
-        evaluation::Outcome::Refused(r) => refused(after, evaluation::refusal_number(r)),
+        evaluation::Outcome::Refused(r) => match r {
+            Refusal::BadShape => refused(after, 7),
+            Refusal::UndefinedValue => refused(after, 8),
+            Refusal::NoConstant(slot, vec, comp) => Interpreted {
+                state: after,
+                outcome: Outcome::NoConstant(slot, vec, comp),
+            },
+        },
     }
 }
 

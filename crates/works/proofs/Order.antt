@@ -5,14 +5,15 @@ use Prim.Native.Nat.{ℕ, suc, _*_}
 use lib.ListN.{take, drop}
 use borrow.Author.Tests.{ne-eqb}
 use Rattle.evaluation.specs.declared.state.State.{State}
-use Rattle.meaning.specs.Interpret.{Answer, returns, interpretation}
+use Rattle.evaluation.specs.Machine.{Answer, returns}
+use Rattle.meaning.specs.Interpret.{interpretation}
 use Rattle.works.specs.Steps.{step, upTo}
 
 pub order-one : (n : ℕ) (l x : List ℕ) (s : State) → x ≡ take 18 (drop (18 * n) l) → step x (upTo n l s) ≡ upTo (suc n) l s
 unfolding upTo
 order-one n l x s e = rw e refl
 
-pub order-none : (l : List ℕ) (s : State) → upTo 0 l s ≡ returns 0 s
+pub order-none : (l : List ℕ) (s : State) → upTo 0 l s ≡ returns 0 [] s
 unfolding upTo
 order-none l s = refl
 

@@ -5,7 +5,8 @@ use Prim.Native.Nat.{ℕ, zero, suc, _*_}
 use lib.Dec.{eqb}
 use lib.ListN.{take, drop}
 use Rattle.evaluation.specs.declared.state.State.{State}
-use Rattle.meaning.specs.Interpret.{Answer, returns, interpretation}
+use Rattle.evaluation.specs.Machine.{Answer, returns}
+use Rattle.meaning.specs.Interpret.{interpretation}
 
 -- after a record; a refusal was the last one
 unfoldable pub step : List ℕ → Answer → Answer
@@ -13,5 +14,5 @@ step l a = cond (eqb (a .number) 0) (interpretation l (a .state) []) a
 
 -- after the first n records of a list
 unfoldable pub upTo : ℕ → List ℕ → State → Answer
-upTo zero l s = returns 0 s
+upTo zero l s = returns 0 [] s
 upTo (suc n) l s = step (take 18 (drop (18 * n) l)) (upTo n l s)

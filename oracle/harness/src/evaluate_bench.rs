@@ -7,7 +7,7 @@ use oracle::evaluate::{State, evaluate};
 use oracle::starts::ALL_WORDS;
 
 use crate::bench::{Round, Row, Work, Works};
-use crate::ffi::{self, Cells};
+use crate::ffi::{self, Cells, Fault};
 
 /// One round of plain Rust over all runs, the state passed from each to the next, and the last state.
 fn round_plain(runs: &[&[u8]], start: &State, constants: &[u32]) -> Round<Cells> {
@@ -23,9 +23,10 @@ fn round_plain(runs: &[&[u8]], start: &State, constants: &[u32]) -> Round<Cells>
 /// The same for the library.
 fn round_library(runs: &[&[u8]], start: &State, constants: &[u32]) -> Round<Cells> {
     let mut cells = Cells::from(start);
+    let mut fault = Fault::default();
     let begin = Instant::now();
     for run in runs {
-        if ffi::evaluate(black_box(run), &mut cells, black_box(constants)) != 0 {
+        if ffi::evaluate(black_box(run), &mut cells, black_box(constants), &mut fault) != 0 {
             return None;
         }
     }

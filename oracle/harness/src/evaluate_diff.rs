@@ -1,5 +1,6 @@
 //! The differential test of evaluation: the same runs, states and constants through plain Rust and through the library.
 
+use oracle::cases::{cases, constants, start};
 use oracle::evaluate::{State, evaluate};
 use oracle::format::encode;
 use oracle::print::hex;
@@ -7,7 +8,7 @@ use oracle::rng::Rng;
 use oracle::starts::{ALL_WORDS, random_list_len, random_state, random_words};
 use oracle::strips::{damage, evaluation_strip, near_miss, random_bytes, random_strip};
 
-use crate::ffi::{self, Cells};
+use crate::ffi::{self, Cells, Fault};
 use crate::runs::{Make, damaged, translated, translated_strip};
 
 /// Differences that are printed in full.
@@ -101,49 +102,81 @@ struct Tally {
 }
 
 impl Tally {
-    fn compare(&mut self, name: &str, run: &[u8], state: &State, constants: &[u32]) -> Option<String> {
+    /// The fault is what stands in slot, vec and comp before the call.
+    fn compare(
+        &mut self,
+        name: &str,
+        run: &[u8],
+        state: &State,
+        constants: &[u32],
+        mut fault: Fault,
+    ) -> Option<String> {
         let plain = evaluate(run, state, constants);
         // A refusal leaves the start.
         let plain_cells = Cells::from(plain.as_ref().unwrap_or(state));
+        let plain_fault = Fault::of(&plain).unwrap_or(fault);
         let plain_number = plain.err().map_or(0, |refusal| refusal.number());
         let mut cells = Cells::from(state);
-        let number = ffi::evaluate(run, &mut cells, constants);
+        let number = ffi::evaluate(run, &mut cells, constants, &mut fault);
         let place = ANSWERS.iter().position(|answer| *answer == plain_number).expect("there are no other answers");
         self.answers[place] += 1;
-        if number == plain_number && cells == plain_cells {
+        if number == plain_number && cells == plain_cells && fault == plain_fault {
             return None;
         }
         self.different += 1;
-        let difference = first_difference(&plain_cells, &cells);
+        let difference = if fault == plain_fault {
+            first_difference(&plain_cells, &cells)
+        } else {
+            format!("{plain_fault:x?}, in the library {fault:x?}")
+        };
         let len = constants.len();
         Some(format!("({name}): plain {plain_number}, library {number}; {difference}; {len} words, run {}", hex(run)))
     }
 
     /// Prints the counts, and says whether they are as they ought to be.
-    fn report(&self, class: &Class) -> bool {
+    fn report(&self, name: &str, must: &[u32], may: &[u32]) -> bool {
         let mut complaint = String::new();
         for (answer, times) in ANSWERS.iter().zip(self.answers) {
-            if class.must.contains(answer) {
+            if must.contains(answer) {
                 if times == 0 {
                     complaint += &format!("  <- lacks answer {answer}");
                 }
-            } else if times > 0 && !class.may.contains(answer) {
+            } else if times > 0 && !may.contains(answer) {
                 complaint += &format!("  <- holds answer {answer}");
             }
         }
         let [done, shape, undefined, constant] = self.answers;
-        let (name, different) = (class.name, self.different);
+        let different = self.different;
         println!("{name:<22} {done:>9} {shape:>9} {undefined:>9} {constant:>9} {different:>10}{complaint}");
         complaint.is_empty() && different == 0
     }
 }
 
-/// Compares on `count` random runs, shared out among the classes. True if there is no difference and every class has
-/// the answers that it ought to have.
+fn random_fault(rng: &mut Rng) -> Fault {
+    let [slot, vec, comp] = std::array::from_fn(|_| rng.next_u64() as u32);
+    Fault { slot, vec, comp }
+}
+
+/// Compares on the hand-made cases and on `count` random runs, shared out among the classes. True if there is no
+/// difference and every class has the answers that it ought to have.
 pub fn run(count: u64, seed: u64) -> bool {
     let mut rng = Rng::new(seed);
     let words = random_words(&mut rng);
     let mut shown = 0;
+    let mut show = |index: u64, difference: Option<String>| {
+        if let Some(difference) = difference {
+            shown += 1;
+            if shown <= SHOWN {
+                println!("difference at run {index} {difference}");
+            }
+        }
+    };
+    let mut by_hand = Tally::default();
+    let (start, case_words) = (start(), constants());
+    for (index, case) in (0..).zip(cases()) {
+        let fault = random_fault(&mut rng);
+        show(index, by_hand.compare(&case.name, &case.run, &start, &case_words[..case.lent], fault));
+    }
     let mut tallies: [Tally; CLASSES.len()] = Default::default();
     for index in 0..count {
         let at = (index % CLASSES.len() as u64) as usize;
@@ -151,21 +184,17 @@ pub fn run(count: u64, seed: u64) -> bool {
         let run = (class.make)(&mut rng);
         let state = random_state(&mut rng);
         let len = if class.all_lent { ALL_WORDS } else { random_list_len(&mut rng, &run, &state, &words) };
-        if let Some(difference) = tallies[at].compare(class.name, &run, &state, &words[..len]) {
-            shown += 1;
-            if shown <= SHOWN {
-                println!("difference at run {index} {difference}");
-            }
-        }
+        let fault = random_fault(&mut rng);
+        show(index, tallies[at].compare(class.name, &run, &state, &words[..len], fault));
     }
 
     if shown > SHOWN {
         println!("{} more differences", shown - SHOWN);
     }
     println!("{:<22} {:>9} {:>9} {:>9} {:>9} {:>10}", "", "evaluated", "7", "8", "9", "different");
-    let mut fine = true;
+    let mut fine = by_hand.report("cases", &ANSWERS, &[]);
     for (class, tally) in CLASSES.iter().zip(&tallies) {
-        fine &= tally.report(class);
+        fine &= tally.report(class.name, class.must, class.may);
     }
     println!("{}", if fine { "no difference" } else { "FAILED" });
     fine

@@ -15,6 +15,9 @@ mod raw {
             truths_len: usize,
             constants: *const u32,
             constants_len: usize,
+            slot: *mut u32,
+            vec: *mut u32,
+            comp: *mut u32,
         ) -> u32;
         pub fn mehkura_translate(
             bytes: *const u8,
@@ -64,16 +67,40 @@ impl From<&meaning::State> for Cells {
     }
 }
 
+/// The constant word that an address asks for, as the library hands it back with 9.
+#[derive(Clone, Copy, Debug, Default, PartialEq, Eq)]
+pub struct Fault {
+    pub slot: u32,
+    pub vec: u32,
+    pub comp: u32,
+}
+
+impl Fault {
+    /// Where plain Rust refuses a run with 9. Every other answer has none.
+    pub fn of<T>(answer: &Result<T, evaluate::Refusal>) -> Option<Fault> {
+        match *answer {
+            Err(evaluate::Refusal::Constant { slot, vec, comp }) => Some(Fault { slot: slot.into(), vec, comp }),
+            _ => None,
+        }
+    }
+}
+
 /// The number that the library gives for a run of strips: 0 if it is evaluated, else 7, 8 or 9. The cells become those
-/// after the run; a refusal must leave them as they are.
-pub fn evaluate(run: &[u8], cells: &mut Cells, constants: &[u32]) -> u32 {
-    evaluate_lists(run, &mut cells.registers, &mut cells.truths, constants)
+/// after the run; a refusal must leave them as they are. The fault is written with 9 alone.
+pub fn evaluate(run: &[u8], cells: &mut Cells, constants: &[u32], fault: &mut Fault) -> u32 {
+    evaluate_lists(run, &mut cells.registers, &mut cells.truths, constants, fault)
 }
 
 /// The same with lists of any length. Other lengths than 255 and 11 must be refused with 7.
-pub fn evaluate_lists(run: &[u8], registers: &mut [u32], truths: &mut [u8], constants: &[u32]) -> u32 {
-    // SAFETY: the pointers and lengths are those of live slices. The library writes to registers and truths alone,
-    // which are borrowed for that and do not overlap.
+pub fn evaluate_lists(
+    run: &[u8],
+    registers: &mut [u32],
+    truths: &mut [u8],
+    constants: &[u32],
+    fault: &mut Fault,
+) -> u32 {
+    // SAFETY: the pointers and lengths are those of live slices and of three numbers. The library writes to registers,
+    // truths and the numbers alone, which are borrowed for that and do not overlap.
     unsafe {
         raw::mehkura_evaluate(
             run.as_ptr(),
@@ -84,6 +111,9 @@ pub fn evaluate_lists(run: &[u8], registers: &mut [u32], truths: &mut [u8], cons
             truths.len(),
             constants.as_ptr(),
             constants.len(),
+            &mut fault.slot,
+            &mut fault.vec,
+            &mut fault.comp,
         )
     }
 }

@@ -5,13 +5,13 @@ use std::sync::atomic::{AtomicU64, AtomicUsize, Ordering};
 use std::thread;
 
 use oracle::generate::{TELLING_VALUES, random_admitted, with_field};
-use oracle::meaning::{State, element_named, element_read, guard_holds, lacks_word, meaning};
+use oracle::meaning::{State, element_named, element_read, guard_holds, lacking_word, meaning};
 use oracle::print::hex;
 use oracle::record::{NAMES, Record};
 use oracle::rng::Rng;
 use oracle::starts::ALL_WORDS;
 
-use crate::ffi::{self, Cells};
+use crate::ffi::{self, Cells, Fault};
 use crate::pair::{MarkBytes, ROOM};
 
 /// Pairs of a record and a state in one job. The answers of a job depend on its number and the seed alone.
@@ -20,6 +20,8 @@ const JOB_PAIRS: u64 = 50_000;
 const LONGEST_RUN: usize = 24;
 /// The library's number for a constant that is not lent.
 const NOT_LENT: u32 = 9;
+/// What stands in slot, vec and comp before a call. It must stand there after every answer but 9.
+const NO_FAULT: Fault = Fault { slot: 0x5a5a_5a5a, vec: 0xa5a5_a5a5, comp: 0x5aa5_a55a };
 /// Differences that are printed in full.
 const SHOWN: u64 = 20;
 
@@ -365,12 +367,14 @@ impl Bench {
     ) -> (State, Option<String>) {
         let mut state = start.clone();
         let mut number = 0;
+        let mut fault = NO_FAULT;
         for record in records {
-            if lacks_word(record, &state, constants) {
+            if let Some(word) = lacking_word(record, &state, constants) {
                 tally.count(record, &state, constants, None);
                 // A refused evaluation returns the state at the run's start.
                 state = start.clone();
                 number = NOT_LENT;
+                fault = Fault { slot: word.slot, vec: word.vec, comp: word.comp };
                 break;
             }
             let next = meaning(record, &state, constants);
@@ -384,9 +388,9 @@ impl Bench {
 
         let difference = match self.translate(records) {
             Ok(len) => {
-                let mut cells = Cells::from(start);
-                let library_number = ffi::evaluate(&self.room[..len], &mut cells, constants);
-                first_difference((number, &Cells::from(&state)), (library_number, &cells))
+                let mut library = (0, NO_FAULT, Cells::from(start));
+                library.0 = ffi::evaluate(&self.room[..len], &mut library.2, constants, &mut library.1);
+                first_difference(&(number, fault, Cells::from(&state)), &library)
             }
             Err(refused) => Some(refused),
         };
@@ -397,14 +401,20 @@ impl Bench {
     }
 }
 
-fn first_difference(ours: (u32, &Cells), library: (u32, &Cells)) -> Option<String> {
+/// An answer: number, fault and state.
+type Answer = (u32, Fault, Cells);
+
+fn first_difference(ours: &Answer, library: &Answer) -> Option<String> {
     if ours == library {
         return None;
     }
     if ours.0 != library.0 {
         return Some(format!("number {}, in the library {}", ours.0, library.0));
     }
-    let (ours, library) = (ours.1, library.1);
+    if ours.1 != library.1 {
+        return Some(format!("{:x?}, in the library {:x?}", ours.1, library.1));
+    }
+    let (ours, library) = (&ours.2, &library.2);
     let register = (0..ours.registers.len()).find(|&at| ours.registers[at] != library.registers[at]);
     let truth = (0..ours.truths.len()).find(|&at| ours.truths[at] != library.truths[at]);
     Some(match (register, truth) {

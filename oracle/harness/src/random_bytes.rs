@@ -4,6 +4,7 @@
 use std::sync::atomic::{AtomicU64, Ordering};
 use std::thread;
 
+use oracle::evaluate::{State, evaluate};
 use oracle::format::encode;
 use oracle::generate::random_record;
 use oracle::print::hex;
@@ -13,7 +14,7 @@ use oracle::rng::Rng;
 use oracle::starts::{ALL_WORDS, random_words};
 use oracle::strips::{TELLING_BYTES, damage, evaluation_strip, random_strip};
 
-use crate::ffi;
+use crate::ffi::{self, Fault};
 use crate::pair::{MarkBytes, ROOM};
 use crate::runs::{translated_near, translated_strip};
 
@@ -132,6 +133,7 @@ struct Caller<'a> {
     room: Lent<u8>,
     written: Lent<usize>,
     registers: Lent<u32>,
+    fault: Lent<Fault>,
 }
 
 impl<'a> Caller<'a> {
@@ -144,6 +146,7 @@ impl<'a> Caller<'a> {
             room: Lent::default(),
             written: Lent::default(),
             registers: Lent::default(),
+            fault: Lent::default(),
         }
     }
 
@@ -253,8 +256,13 @@ impl<'a> Caller<'a> {
         let some = self.rng.below(ALL_WORDS + 1);
         let lent = self.rng.pick(&[0, 1, some, some, ALL_WORDS, ALL_WORDS, self.stock.words.len()]);
 
+        let margin = Fault { slot: any, vec: !any, comp: any.rotate_left(7) };
+        self.fault.fill(&mut self.rng, margin, [Fault { slot: !any, vec: any, comp: any.rotate_left(9) }]);
+
         let constants = &self.stock.words[..lent];
-        let number = ffi::evaluate_lists(self.input.list(), self.registers.list(), self.bytes.list(), constants);
+        let fault = &mut self.fault.list()[0];
+        let number = ffi::evaluate_lists(self.input.list(), self.registers.list(), self.bytes.list(), constants, fault);
+        let fault = *fault;
         let untouched = self.input.is_kept()
             && if number == 0 {
                 self.registers.is_kept_around(REGISTERS)
@@ -262,8 +270,23 @@ impl<'a> Caller<'a> {
                     && self.bytes.list().iter().all(|&truth| truth <= 1)
             } else {
                 self.registers.is_kept() && self.bytes.is_kept()
+            }
+            && if number == 9 {
+                self.fault.is_kept_around(1) && self.asks_for(fault, constants)
+            } else {
+                self.fault.is_kept()
             };
         self.verdict(number, untouched)
+    }
+
+    /// Whether plain Rust refuses the run of the last call at the same constant word.
+    fn asks_for(&self, fault: Fault, constants: &[u32]) -> bool {
+        let Ok(registers) = self.registers.list_before().try_into() else { return false };
+        let [predicates @ .., z, s, c, o] = self.bytes.list_before() else { return false };
+        let Ok(predicates) = <[u8; 7]>::try_from(predicates) else { return false };
+        let truth = |byte: u8| byte != 0;
+        let state = State { registers, predicates: predicates.map(truth), flags: [*z, *s, *c, *o].map(truth) };
+        Fault::of(&evaluate(self.input.list_before(), &state, constants)) == Some(fault)
     }
 
     fn reach(&mut self) -> Result<u32, String> {

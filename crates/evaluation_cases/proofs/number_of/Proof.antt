@@ -1,10 +1,10 @@
-use Rattle.evaluation.specs.Machine.{numberOf}
+use Rattle.evaluation.specs.Machine.{told}
 use borrow.Author.Needs.{needs}
 use Rattle.evaluation_cases.proofs.number_of.Statement.{statement}
 use Rattle.evaluation_cases.proofs.number_of.Tie as tie
 
 pub number-of-spec : {M : Type 1} → statement M
-unfolding numberOf
+unfolding told
 number-of-spec =
     tie.close
     (tie.spec

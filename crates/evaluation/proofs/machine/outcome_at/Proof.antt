@@ -15,4 +15,4 @@ outcome-at-spec =
     (λ c. rw (c .enum-told .given .1))
     (λ c. rw (c .enum-told2 .given .1))
     (λ c. rw (c .enum-told3 .given .1))
-    (λ c. rw (c .enum-told4 .given .1)))
+    (λ c. rw (c .before .end .given .1)))

@@ -60,5 +60,5 @@ pass-spec =
     (λ c. with-end (c .refused4 .ensures) (finished _ _ _ _ _ _ _ _ (c .before .before .before .before .before .before .loop .inv .1 .1) (c .before .before .before .before .before .loop-test .left) (c .before .before .before .if2 .left) _ (rest-undefined (c .before .before .before .before .before .before .loop .m) _ _ _ _ _ (c .before .enum-told2 .given .1))))
     (λ c. search needs)
     (λ c κs. search needs)
-    (λ c. with-end (c .refused5 .ensures) (finished _ _ _ _ _ _ _ _ (c .before .before .before .before .before .before .before .loop .inv .1 .1) (c .before .before .before .before .before .before .loop-test .left) (c .before .before .before .before .if2 .left) _ (rest-missing (c .before .before .before .before .before .before .before .loop .m) _ _ _ _ _ (c .before .enum-told3 .given .1))))
+    (λ c. with-end (c .refused5 .ensures) (finished _ _ _ _ _ _ _ _ (c .before .before .before .before .before .before .before .before .loop .inv .1 .1) (c .before .before .before .before .before .before .before .loop-test .left) (c .before .before .before .before .before .if2 .left) _ (rest-missing (c .before .before .before .before .before .before .before .before .loop .m) _ _ _ _ _ _ _ _ (c .before .before .status .given .1))))
     (λ c. finished _ _ _ _ _ _ _ _ (c .before .before .before .before .before .before .before .before .loop .inv .1 .1) (c .before .before .before .before .before .before .before .loop-test .left) (c .before .before .before .before .before .if2 .left) _ (rest-done (c .before .before .before .before .before .before .before .before .loop .m) _ _ _ _ _ (c .before .before .before .before .match2 .keys2) (c .before .before .before .match3 .keys2))))

@@ -3,7 +3,7 @@ use lib.ListN.{length}
 use native.Mathlib.Omega.{arith}
 use denote.Ref.{now}
 use Rattle.translation.proofs.Stays.{Proper}
-use Rattle.meaning.specs.Interpret.{numberOf}
+use Rattle.meaning.specs.Interpret.{told}
 use Rattle.meaning.proofs.Interpreted.{array-words, written-fits, refused-interpreted, written-interpreted}
 use borrow.Author.Needs.{needs}
 use Rattle.meaning.proofs.interpreter.interpret.Statement.{statement}
@@ -18,7 +18,7 @@ proper c =
     record { regs = array-words (s .args .state .regs) (r .0) (r .1 .1); constants = λ n. omega (arith, c .shared-slice-known2 .given n); flags = f }
 
 pub interpret-spec : {M : Type 1} → statement M
-unfolding numberOf
+unfolding told
 interpret-spec =
     tie.close
     (tie.spec

@@ -3,7 +3,7 @@ use mathlib.Core.Path.{_≡_, sym, ap, _∙_}
 use native.Mathlib.Omega.{arith}
 use native.Mathlib.Numerals.{add-one}
 use lib.ListN.{take, drop}
-use Rattle.meaning.specs.Interpret.{numberOf, answerOf}
+use Rattle.meaning.specs.Interpret.{told, answerOf}
 use Rattle.works.specs.Steps.{upTo}
 use Rattle.works.proofs.Order.{order-one, order-none}
 use borrow.Author.Needs.{needs}
@@ -17,7 +17,7 @@ abbrev μ-loop : tie.MeasureT-loop
 μ-loop records count i₀ n₀ i n = count - n
 
 pub in-order-spec : {M : Type 1} → statement M
-unfolding numberOf
+unfolding told
 in-order-spec =
     tie.close
     (tie.spec Inv-loop μ-loop
