@@ -17,8 +17,16 @@ include!(concat!(env!("OUT_DIR"), "/opcodes.rs"));
 
 /// The opcode values that the text compares with: lea (high form by register and by constant), xmad, icmp, bfi, shf
 /// (left by register and by number) and the mov of a system value.
-pub const TELLING_VALUES: [u64; 8] =
-    [0x5bd8 << 48, 0x1800 << 48, 0x5100 << 48, 0x5340 << 48, 0x53f0 << 48, 0x5bf8 << 48, 0x36f8 << 48, MOV_SYSTEM_VALUE];
+pub const TELLING_VALUES: [u64; 8] = [
+    0x5bd8 << 48,
+    0x1800 << 48,
+    0x5100 << 48,
+    0x5340 << 48,
+    0x53f0 << 48,
+    0x5bf8 << 48,
+    0x36f8 << 48,
+    MOV_SYSTEM_VALUE,
+];
 
 /// First bits of the register fields rd, ra, rb and rc.
 const REGISTER_FIELDS: [u32; 4] = [0, 8, 20, 39];

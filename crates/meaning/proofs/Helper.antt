@@ -8,7 +8,7 @@ use native.Mathlib.Omega.{arith}
 use lib.Dec.{eqb, ltb, leb}
 use lib.ListN.{length, getD, set as replace}
 use lib.Bits.{bitAnd, and-mask}
-use borrow.Author.Tests.{lt-ltb, le-ltb, eqb-true, eqb-false, not-true, not-false}
+use borrow.Author.Tests.{lt-ltb, le-leb, eqb-true, eqb-false, not-true, not-false}
 use Rattle.strip.proofs.Tests.{and-left, and-right}
 use Rattle.strip.specs.declared.reader.Entry.the-variants as Entry
 use Rattle.evaluation.specs.declared.value.Value.{Value}
@@ -167,11 +167,11 @@ module _ (cs : List ℕ) (s : State) where
 
     cbuf-lent : ltb (n * 16384 + w) (length cs) ≡ true → sem cs (cbufImm n w) [] s ≡ ran s (Word (getD cs (n * 16384 + w) 0))
     unfolding cbufImm cbufAt effectOf cellEffect two binary binaryWord withWord withSlot withAddress oneEffect fourEffect addressing addressWords fetched valueAt
-    cbuf-lent h = rw (vec-is, comp-is, le-ltb 4095 (w / 4) (omega arith), le-ltb 3 (w % 4) (omega arith), place-is, h) (rw h refl)
+    cbuf-lent h = rw (vec-is, comp-is, le-leb (w / 4) 4095 (omega arith), le-leb (w % 4) 3 (omega arith), place-is, h) (rw h refl)
 
     cbuf-missing : ltb (n * 16384 + w) (length cs) ≡ false → sem cs (cbufImm n w) [] s ≡ halted (NoConstant n (w / 4) (w % 4)) s
     unfolding cbufImm cbufAt effectOf cellEffect two binary binaryWord withWord withSlot withAddress oneEffect fourEffect addressing addressWords fetched valueAt
-    cbuf-missing h = rw (vec-is, comp-is, le-ltb 4095 (w / 4) (omega arith), le-ltb 3 (w % 4) (omega arith), place-is, h) refl
+    cbuf-missing h = rw (vec-is, comp-is, le-leb (w / 4) 4095 (omega arith), le-leb (w % 4) 3 (omega arith), place-is, h) refl
 
   module _ (i : Record) where
     pub constant-sem : lent cs i ≡ true → sem cs (cbufImm (constantSlot i) (constantWord i)) [] s ≡ ran s (Word (constant cs i))

@@ -19,6 +19,7 @@ use Rattle.evaluation.specs.declared.machine.Outcome.the-variants.{Done, Refuse
 use Rattle.evaluation.specs.declared.machine.Evaluated.{Evaluated}
 use Rattle.evaluation.specs.Machine.{isDone, begun, ends, onward, entriesFrom, stripsFrom, restored, evaluated, valueAt}
 use Rattle.evaluation.proofs.Flat.{evaluated-strips}
+use Rattle.evaluation.proofs.Laws.{restored-twice}
 use Rattle.evaluation.proofs.Words.{Sized, undefined-sized}
 use Rattle.translation.specs.Insn as T
 use Rattle.translation.specs.Arms.{armOf}
@@ -110,13 +111,6 @@ restored-on s r f = go (r .outcome) refl
     go : (o : Outcome) → r .outcome ≡ o → restored s (cond (isDone o) (f (r .state)) r) ≡ restored s (onward (restored s (cond (isDone o) (ends Done (r .state)) r)) f)
     go Done e = refl
     go (Refused q) e = rw e refl
-
-restored-twice : (s t : State) (r : Evaluated) → restored s (restored t r) ≡ restored s r
-restored-twice s t r = go (isDone (r .outcome)) refl
-  where
-    go : (b : Bool) → isDone (r .outcome) ≡ b → restored s (cond b r (ends (r .outcome) t)) ≡ cond b r (ends (r .outcome) s)
-    go true p = rw p refl
-    go false p = rw p refl
 
 abbrev entriesAt : List ℕ → List Entry
 entriesAt l = entriesOf (getD l 0 0) (insnOf l)

@@ -16,10 +16,10 @@ use Rattle.evaluation.specs.declared.value.Value.the-variants.{Undefined, Word,
 use Rattle.evaluation.specs.declared.state.State.{State}
 use Rattle.evaluation.specs.Value.{withWord, withAddress, unary, negated, binary, compared, logic, two, chosen, extracted, three, insertedValue}
 use Rattle.evaluation.specs.State.{loaded, storedReg, storedPred, storedFlag}
-use Rattle.evaluation.specs.Machine.{addressWords, addressing, Effect, Push, SetReg, SetPred, SetFlag, Enter, Pass, Finish, Refuse, storingWord, storingTruth, storing, entering, fetched, bareEffect, cellEffect, oneEffect, fourEffect, valueAt, effectOf}
+use Rattle.evaluation.specs.Machine.{addressing, Effect, Push, SetReg, SetPred, SetFlag, Enter, Pass, Finish, Refuse, storingWord, storingTruth, storing, entering, fetched, bareEffect, cellEffect, oneEffect, fourEffect, valueAt, effectOf}
 use Rattle.evaluation.proofs.Words.{Sized, word-sized, undefined-sized, unary-sized, binary-sized, extract-sized, insert-sized}
 use Rattle.evaluation.specs.declared.machine.Refusal.the-variants.{UndefinedValue}
-use Rattle.evaluation.proofs.Laws.{cond-all, with-word, with-truth, with-slot}
+use Rattle.evaluation.proofs.Laws.{cond-all, with-word, with-truth, address-cases}
 use Rattle.translation.specs.Code.{Code, ret, op, act, call, mark, ite}
 use Rattle.translation.proofs.InRange.{fits, wordIn, inRange, taken, left-out}
 use Rattle.translation.proofs.Sem.{Ran, ran, halted, mid, pushing, acting, followed, valuesAt, sem}
@@ -94,13 +94,7 @@ SizedEffect Finish = Unit {0}
 SizedEffect (Refuse r) = Unit {0}
 
 address-effect : (a b c d : Value) (size : ℕ) → SizedEffect (addressing a b c d size)
-unfolding addressing addressWords
-address-effect a b c d size =
-    with-slot SizedEffect (Refuse UndefinedValue) a _ tt
-    (λ n. with-word SizedEffect (Refuse UndefinedValue) b _ tt
-    (λ z. with-word SizedEffect (Refuse UndefinedValue) c _ tt
-    (λ v. with-word SizedEffect (Refuse UndefinedValue) d _ tt
-    (λ w. cond-all SizedEffect (eqb z 0) _ _ (cond-all SizedEffect (ltb 4095 v) _ _ tt (cond-all SizedEffect (ltb 3 w) _ _ tt (cond-all SizedEffect (ltb _ size) _ _ (address-sized _) tt))) tt))))
+address-effect = address-cases SizedEffect tt (λ slot vec comp. tt) (λ i. address-sized i)
 
 module _ (cs : List ℕ) (s : State) (vs : List Value) (w : Proper cs s) (h : (l : ℕ) → Sized (valueAt vs l)) where
   load-sized : (k n : ℕ) → Sized (loaded s k n)

@@ -8,7 +8,7 @@ use oracle::rng::Rng;
 use oracle::starts::{ALL_WORDS, random_list_len, random_state, random_words};
 use oracle::strips::{damage, evaluation_strip, near_miss, random_bytes, random_strip};
 
-use crate::ffi::{self, Cells, Fault};
+use crate::ffi::{self, Cells, Evaluated, Fault};
 use crate::runs::{Make, damaged, translated, translated_strip};
 
 /// Differences that are printed in full.
@@ -81,19 +81,6 @@ fn mixed(rng: &mut Rng) -> Vec<u8> {
     run
 }
 
-/// The first cell in which the two differ.
-fn first_difference(plain: &Cells, library: &Cells) -> String {
-    let register = (0..plain.registers.len()).find(|&at| plain.registers[at] != library.registers[at]);
-    let truth = (0..plain.truths.len()).find(|&at| plain.truths[at] != library.truths[at]);
-    match (register, truth) {
-        (Some(at), _) => {
-            format!("register {at} is {:#010x}, in the library {:#010x}", plain.registers[at], library.registers[at])
-        }
-        (None, Some(at)) => format!("truth {at} is {}, in the library {}", plain.truths[at], library.truths[at]),
-        (None, None) => "equal states".to_owned(),
-    }
-}
-
 /// Counts of one class.
 #[derive(Default)]
 struct Tally {
@@ -103,34 +90,20 @@ struct Tally {
 
 impl Tally {
     /// The fault is what stands in slot, vec and comp before the call.
-    fn compare(
-        &mut self,
-        name: &str,
-        run: &[u8],
-        state: &State,
-        constants: &[u32],
-        mut fault: Fault,
-    ) -> Option<String> {
-        let plain = evaluate(run, state, constants);
+    fn compare(&mut self, name: &str, run: &[u8], state: &State, constants: &[u32], fault: Fault) -> Option<String> {
+        let answer = evaluate(run, state, constants);
         // A refusal leaves the start.
-        let plain_cells = Cells::from(plain.as_ref().unwrap_or(state));
-        let plain_fault = Fault::of(&plain).unwrap_or(fault);
-        let plain_number = plain.err().map_or(0, |refusal| refusal.number());
-        let mut cells = Cells::from(state);
-        let number = ffi::evaluate(run, &mut cells, constants, &mut fault);
-        let place = ANSWERS.iter().position(|answer| *answer == plain_number).expect("there are no other answers");
-        self.answers[place] += 1;
-        if number == plain_number && cells == plain_cells && fault == plain_fault {
-            return None;
-        }
-        self.different += 1;
-        let difference = if fault == plain_fault {
-            first_difference(&plain_cells, &cells)
-        } else {
-            format!("{plain_fault:x?}, in the library {fault:x?}")
+        let plain = Evaluated {
+            number: answer.as_ref().err().map_or(0, |refusal| refusal.number()),
+            fault: Fault::of(&answer).unwrap_or(fault),
+            cells: Cells::from(answer.as_ref().unwrap_or(state)),
         };
-        let len = constants.len();
-        Some(format!("({name}): plain {plain_number}, library {number}; {difference}; {len} words, run {}", hex(run)))
+        let place = ANSWERS.iter().position(|number| *number == plain.number).expect("there are no other answers");
+        self.answers[place] += 1;
+        let library = ffi::evaluated(run, Cells::from(state), constants, fault);
+        let difference = plain.first_difference(&library)?;
+        self.different += 1;
+        Some(format!("({name}): {difference}; {} words, run {}", constants.len(), hex(run)))
     }
 
     /// Prints the counts, and says whether they are as they ought to be.

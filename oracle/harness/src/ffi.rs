@@ -85,8 +85,42 @@ impl Fault {
     }
 }
 
-/// The number that the library gives for a run of strips: 0 if it is evaluated, else 7, 8 or 9. The cells become those
-/// after the run; a refusal must leave them as they are. The fault is written with 9 alone.
+/// What an evaluation answers, and what the lists and numbers that it was lent hold then.
+#[derive(Clone, Debug, PartialEq, Eq)]
+pub struct Evaluated {
+    pub number: u32,
+    pub fault: Fault,
+    pub cells: Cells,
+}
+
+impl Evaluated {
+    /// The first thing in which the library's answer is another, if one is.
+    pub fn first_difference(&self, library: &Evaluated) -> Option<String> {
+        if self.number != library.number {
+            return Some(format!("number {}, in the library {}", self.number, library.number));
+        }
+        if self.fault != library.fault {
+            return Some(format!("{:x?}, in the library {:x?}", self.fault, library.fault));
+        }
+        let (ours, theirs) = (&self.cells, &library.cells);
+        if let Some(at) = (0..ours.registers.len()).find(|&at| ours.registers[at] != theirs.registers[at]) {
+            let [ours, theirs] = [ours, theirs].map(|cells| cells.registers[at]);
+            return Some(format!("register {at} is {ours:#010x}, in the library {theirs:#010x}"));
+        }
+        let at = (0..ours.truths.len()).find(|&at| ours.truths[at] != theirs.truths[at])?;
+        Some(format!("truth {at} is {}, in the library {}", ours.truths[at], theirs.truths[at]))
+    }
+}
+
+/// What the library answers for a run of strips, from cells and whatever stands where the fault goes: 0 if it is
+/// evaluated, else 7, 8 or 9. The cells become those after the run; a refusal must leave them as they are, and every
+/// answer but 9 the fault.
+pub fn evaluated(run: &[u8], mut cells: Cells, constants: &[u32], mut fault: Fault) -> Evaluated {
+    let number = evaluate(run, &mut cells, constants, &mut fault);
+    Evaluated { number, fault, cells }
+}
+
+/// The number alone, with cells and fault in place.
 pub fn evaluate(run: &[u8], cells: &mut Cells, constants: &[u32], fault: &mut Fault) -> u32 {
     evaluate_lists(run, &mut cells.registers, &mut cells.truths, constants, fault)
 }

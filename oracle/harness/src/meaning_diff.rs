@@ -11,7 +11,7 @@ use oracle::record::{NAMES, Record};
 use oracle::rng::Rng;
 use oracle::starts::ALL_WORDS;
 
-use crate::ffi::{self, Cells, Fault};
+use crate::ffi::{self, Cells, Evaluated, Fault};
 use crate::pair::{MarkBytes, ROOM};
 
 /// Pairs of a record and a state in one job. The answers of a job depend on its number and the seed alone.
@@ -388,9 +388,8 @@ impl Bench {
 
         let difference = match self.translate(records) {
             Ok(len) => {
-                let mut library = (0, NO_FAULT, Cells::from(start));
-                library.0 = ffi::evaluate(&self.room[..len], &mut library.2, constants, &mut library.1);
-                first_difference(&(number, fault, Cells::from(&state)), &library)
+                let library = ffi::evaluated(&self.room[..len], Cells::from(start), constants, NO_FAULT);
+                Evaluated { number, fault, cells: Cells::from(&state) }.first_difference(&library)
             }
             Err(refused) => Some(refused),
         };
@@ -399,31 +398,6 @@ impl Bench {
         }
         (state, difference)
     }
-}
-
-/// An answer: number, fault and state.
-type Answer = (u32, Fault, Cells);
-
-fn first_difference(ours: &Answer, library: &Answer) -> Option<String> {
-    if ours == library {
-        return None;
-    }
-    if ours.0 != library.0 {
-        return Some(format!("number {}, in the library {}", ours.0, library.0));
-    }
-    if ours.1 != library.1 {
-        return Some(format!("{:x?}, in the library {:x?}", ours.1, library.1));
-    }
-    let (ours, library) = (&ours.2, &library.2);
-    let register = (0..ours.registers.len()).find(|&at| ours.registers[at] != library.registers[at]);
-    let truth = (0..ours.truths.len()).find(|&at| ours.truths[at] != library.truths[at]);
-    Some(match (register, truth) {
-        (Some(at), _) => {
-            format!("register {at} is {:#010x}, in the library {:#010x}", ours.registers[at], library.registers[at])
-        }
-        (None, Some(at)) => format!("truth {at} is {}, in the library {}", ours.truths[at], library.truths[at]),
-        (None, None) => unreachable!("something differs"),
-    })
 }
 
 /// What is needed to see a difference again: the record, and what it may read.

@@ -1,6 +1,6 @@
 use Prim.Native.Nat.{_≤_}
 use mathlib.Core.Logic.{⊎-elim}
-use borrow.Author.Tests.{leb-true, leb-false, lt-ltb, le-ltb, ne-eqb}
+use borrow.Author.Tests.{leb-true, lt-ltb, le-ltb, ne-eqb}
 use Rattle.evaluation.specs.Machine.{addressWords}
 use Rattle.evaluation.specs.Progress.{addressed}
 use borrow.Author.Needs.{needs}
@@ -24,6 +24,6 @@ address-words-spec =
     (λ c. let h = vec-fits c in search (needs, h))
     (λ c. let h = vec-fits c in let k = comp-fits c in search (needs, h, k))
     (λ c. search needs)
-    (λ c. rw (c .before .before .before .if1 .taken, le-ltb _ _ (vec-fits (c .before)), le-ltb _ _ (comp-fits (c .before)), lt-ltb _ _ (c .if4 .taken)))
-    (λ c. rw (c .before .before .before .if1 .taken, le-ltb _ _ (vec-fits (c .before)), le-ltb _ _ (comp-fits (c .before)), le-ltb _ _ (c .if4 .left)))
-    (λ c. ⊎-elim (λ w. rw (w .0 .taken, le-ltb _ _ (leb-true _ _ (w .1 .taken)), lt-ltb _ _ (leb-false _ _ (w .2 .left)))) (⊎-elim (λ w. rw (w .0 .taken, lt-ltb _ _ (leb-false _ _ (w .1 .left)))) (λ w. rw (ne-eqb _ _ (w .left)))) (c .if1 .came)))
+    (λ c. rw (c .before .before .before .if1 .taken, c .before .before .if2 .taken, c .before .if3 .taken, lt-ltb _ _ (c .if4 .taken)))
+    (λ c. rw (c .before .before .before .if1 .taken, c .before .before .if2 .taken, c .before .if3 .taken, le-ltb _ _ (c .if4 .left)))
+    (λ c. ⊎-elim (λ w. rw (w .0 .taken, w .1 .taken, w .2 .left)) (⊎-elim (λ w. rw (w .0 .taken, w .1 .left)) (λ w. rw (ne-eqb _ _ (w .left)))) (c .if1 .came)))
