@@ -1,4 +1,4 @@
-/* Mehkura for C and C++: translation of a record, reach and evaluation of a run.
+/* Mehkura for C and C++: translation of a record; shape test, reach, evaluation and conversion of a run.
  *
  * host/build proves the library and makes target/mehkura with lib/libmehkura.a, which has every function below, and this header. Lists go as a pointer
  * and a length. No pointer may be null, for a list of length 0 either, and lists that one call gets must not overlap. No function keeps a pointer,
@@ -20,8 +20,8 @@ enum mehkura_answer {
     MEHKURA_UNKNOWN_FORM = 3,    /* above 2 */
     MEHKURA_SYSTEM_VALUE_MOV = 4, /* mov of a system value: opcode value 0xf0c8000000000000 */
     MEHKURA_HALF_AT_BYTE_3 = 5,  /* i2i of a half from byte 3 on */
-    MEHKURA_NO_ROOM = 6,         /* the strip is longer than the room */
-    MEHKURA_BAD_SHAPE = 7,       /* the run is not well-formed, or a list of cells or of a state has another length */
+    MEHKURA_NO_ROOM = 6,         /* the strip, or the converted run, is longer than the room */
+    MEHKURA_BAD_SHAPE = 7,       /* the run is not well-formed in its layout, or a list of cells or of a state has another length */
     MEHKURA_UNDEFINED_VALUE = 8, /* an undefined value reaches a store, an open or an address */
     MEHKURA_NO_CONSTANT = 9      /* no constant is lent at an address */
 };
@@ -37,24 +37,39 @@ enum {
 };
 enum { MEHKURA_CELL_PREDICATE = 255, MEHKURA_CELL_FLAG = 262, MEHKURA_CELL_SLOT = 266 };
 
+/* How many bytes a reference to a value takes in a run. The caller says which, it is never guessed: the same bytes may be a run in both layouts and
+ * mean two things. In a layout of another number no run is well-formed, the empty one neither. */
+enum mehkura_layout {
+    MEHKURA_WIDE = 0,  /* two bytes: what mehkura_translate writes and mehkura_reach reads */
+    MEHKURA_NARROW = 1 /* one byte: the shelf copy */
+};
+
 #ifdef __cplusplus
 extern "C" {
 #endif
 
-/* Translates a record: its strip goes to the start of out, the strip's length to *written, and the use marks are raised. What lies in out after
- * the strip stays as it is. Strips one after another are a run. Answers 0, or 1 to 6. */
+/* Translates a record: its strip, in the wide layout, goes to the start of out, the strip's length to *written, and the use marks are raised. What
+ * lies in out after the strip stays as it is. Strips one after another are a run. Answers 0, or 1 to 6. */
 uint32_t mehkura_translate(const uint8_t *record, size_t record_len, uint8_t *marks, size_t marks_len, uint8_t *out, size_t out_len, size_t *written);
 
-/* Which cells at the start of a run can matter to the listed ones at its end, in place: a byte for each cell, listed where it is not 0, answered as
- * 0 or 1. Answers 0 or 7. */
+/* Whether a run is well-formed in the layout. Answers 0 or 7. */
+uint32_t mehkura_shape(const uint8_t *run, size_t run_len, uint32_t layout);
+
+/* Which cells at the start of a wide run can matter to the listed ones at its end, in place: a byte for each cell, listed where it is not 0, answered
+ * as 0 or 1. Answers 0 or 7. */
 uint32_t mehkura_reach(const uint8_t *run, size_t run_len, uint8_t *cells, size_t cells_len);
 
-/* Evaluates a run from a state, in place: the registers, and a byte for each truth, true where it is not 0, answered as 0 or 1. Word w of constant
- * slot s is element s * 16384 + w of the constants. Answers 0, or 7, 8, 9. With 9, and then alone, *slot, *vec and *comp become what the first address
- * that was refused asked for: word vec * 4 + comp of the slot is not lent. A strip can ask for any 32-bit vec and comp; no list holds a word at a vec
- * above 4095 or a comp above 3, nor at an address whose zero is not 0. */
-uint32_t mehkura_evaluate(const uint8_t *run, size_t run_len, uint32_t *registers, size_t registers_len, uint8_t *truths, size_t truths_len,
-                          const uint32_t *constants, size_t constants_len, uint32_t *slot, uint32_t *vec, uint32_t *comp);
+/* Evaluates a run, which is in the layout, from a state, in place: the registers, and a byte for each truth, true where it is not 0, answered as 0 or
+ * 1. Word w of constant slot s is element s * 16384 + w of the constants. Answers 0, or 7, 8, 9. With 9, and then alone, *slot, *vec and *comp become
+ * what the first address that was refused asked for: word vec * 4 + comp of the slot is not lent. A strip can ask for any 32-bit vec and comp; no list
+ * holds a word at a vec above 4095 or a comp above 3, nor at an address whose zero is not 0. */
+uint32_t mehkura_evaluate(const uint8_t *run, size_t run_len, uint32_t layout, uint32_t *registers, size_t registers_len, uint8_t *truths,
+                          size_t truths_len, const uint32_t *constants, size_t constants_len, uint32_t *slot, uint32_t *vec, uint32_t *comp);
+
+/* Converts a run, which is in the layout, to the other one: it goes to the start of out, its length there to *written. What lies in out after it stays
+ * as it is. A narrow run is never longer than the wide one, a wide one never more than twice as long as the narrow one. Converted back it is the same
+ * bytes, and both evaluate alike. Answers 0, or 7, then 6. */
+uint32_t mehkura_convert(const uint8_t *run, size_t run_len, uint32_t layout, uint8_t *out, size_t out_len, size_t *written);
 
 #ifdef __cplusplus
 }

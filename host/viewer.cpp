@@ -1,5 +1,6 @@
-// What a viewer does with Mehkura: translates the samples into one room, asks what can matter, evaluates the run, and tries every refusal.
-// Writes a line for each part, and ends with 1 at the first thing that is not as it must be. One argument: the folder of the samples.
+// What a viewer does with Mehkura: translates the samples into one room, asks what can matter, evaluates the run, keeps a shelf copy of each sample,
+// and tries every refusal. Writes a line for each part, and ends with 1 at the first thing that is not as it must be. One argument: the folder of the
+// samples.
 #include "mehkura.h"
 
 #include <array>
@@ -41,6 +42,12 @@ constexpr uint64_t rd(uint64_t n) { return n; }
 constexpr uint64_t ra(uint64_t n) { return n << 8; }
 constexpr uint64_t rb(uint64_t n) { return n << 20; }
 
+// The start of a list. An empty vector may have a null pointer, which no function takes.
+template <typename List> auto *start(List &list) {
+    static typename List::value_type none;
+    return list.empty() ? &none : list.data();
+}
+
 // Strips of accepted records, one after another, in a room of a fixed size.
 struct Room {
     Bytes bytes;
@@ -55,6 +62,8 @@ struct Room {
         used += written;
         return number;
     }
+
+    Bytes run() const { return Bytes(bytes.begin(), bytes.begin() + static_cast<long>(used)); }
 };
 
 // The constant word that 9 says is not lent.
@@ -73,10 +82,14 @@ struct State {
     std::array<uint8_t, MEHKURA_TRUTHS> truths{};
     Fault fault;
 
-    uint32_t run(const Room &room, const std::vector<uint32_t> &constants = {0}) {
-        return mehkura_evaluate(room.bytes.data(), room.used, registers.data(), registers.size(), truths.data(), truths.size(), constants.data(),
+    bool operator==(const State &other) const { return registers == other.registers && truths == other.truths && fault == other.fault; }
+
+    uint32_t run(const Bytes &run, uint32_t layout, const std::vector<uint32_t> &constants) {
+        return mehkura_evaluate(start(run), run.size(), layout, registers.data(), registers.size(), truths.data(), truths.size(), start(constants),
                                 constants.size(), &fault.slot, &fault.vec, &fault.comp);
     }
+
+    uint32_t run(const Room &room, const std::vector<uint32_t> &constants = {0}) { return run(room.run(), MEHKURA_WIDE, constants); }
 };
 
 Bytes file(const std::string &name) {
@@ -204,10 +217,7 @@ void translations() {
         std::vector<uint8_t> marks(marks_len, 0x11), room(room_len, unused);
         const auto marks_before = marks, room_before = room;
         size_t written = 77;
-        uint8_t none = 0;
-        uint32_t answer = mehkura_translate(r.empty() ? &none : r.data(), r.size(), marks.empty() ? &none : marks.data(), marks.size(),
-                                            room.empty() ? &none : room.data(), room.size(), &written);
-        check(answer == number, what);
+        check(mehkura_translate(start(r), r.size(), start(marks), marks.size(), start(room), room.size(), &written) == number, what);
         check(written == 77 && marks == marks_before && room == room_before, what + ": all as it was");
     };
     for (size_t n : {0, 1, 17, 19}) {
@@ -252,18 +262,21 @@ Bytes joined(const Bytes &first, const Bytes &second) {
     return both;
 }
 
+// Numbers that name no layout.
+constexpr uint32_t no_layouts[] = {2, 3, 255, 256, 257, 0xffffffff};
+
 // Every refusal of the evaluation, with the state as it was after it; 9 alone says where.
 void evaluations() {
     const Fault none;
     auto refuses = [](const Bytes &run, size_t registers, size_t truths, const std::vector<uint32_t> &constants, uint32_t number, const Fault &fault,
-                      const std::string &what) {
+                      const std::string &what, uint32_t layout = MEHKURA_WIDE) {
         std::vector<uint32_t> r(registers, 0x5a5a5a5a);
         std::vector<uint8_t> t(truths, 9);
         const auto r_before = r;
         const auto t_before = t;
         Fault told;
-        check(mehkura_evaluate(run.data(), run.size(), r.data(), r.size(), t.data(), t.size(), constants.data(), constants.size(), &told.slot, &told.vec,
-                               &told.comp) == number,
+        check(mehkura_evaluate(start(run), run.size(), layout, r.data(), r.size(), t.data(), t.size(), constants.data(), constants.size(), &told.slot,
+                               &told.vec, &told.comp) == number,
               what);
         check(r == r_before && t == t_before, what + ": the state as it was");
         check(told == fault, what + ": " + told.text());
@@ -272,6 +285,10 @@ void evaluations() {
     refuses({0}, 255, 11, {0}, 7, none, "7 for a run that is not well-formed");
     refuses(end, 254, 11, {0}, 7, none, "7 for 254 registers");
     refuses(end, 255, 12, {0}, 7, none, "7 for 12 truths");
+    for (uint32_t layout : no_layouts) {
+        refuses(end, 255, 11, {0}, 7, none, "7 for a layout that is none", layout);
+        refuses({}, 255, 11, {0}, 7, none, "7 for a layout that is none, and a run of no bytes", layout);
+    }
     // a store, then a word shifted by 32 that reaches a store
     const Bytes undefined{1, 32, 0, 0, 0, 7, 0, 0, 0, 43, 0, 0, 0, 0, 7, 1, 1, 0, 0xff};
     refuses(undefined, 255, 11, {0}, 8, none, "8 for an undefined value");
@@ -279,7 +296,7 @@ void evaluations() {
     // mov R0, word 70 of slot 3: vec 17, comp 2
     Room room(256);
     check(room.add(record(1, 1, 0, guard(7) | rd(0) | 70ull << 20 | 3ull << 34)) == 0, "mov of a constant");
-    const Bytes run(room.bytes.begin(), room.bytes.begin() + static_cast<long>(room.used));
+    const Bytes run = room.run();
     const Fault word{3, 17, 2};
     refuses(run, 255, 11, std::vector<uint32_t>(3 * 16384 + 70), 9, word, "9 for a constant that is not lent");
     std::vector<uint32_t> lent(3 * 16384 + 71);
@@ -310,12 +327,113 @@ void evaluations() {
     check(asks.fault.text() == "slot 3, vec 17, comp 2 is not lent", "the fault in words");
 }
 
+// A run in the other layout, in a room that it fills exactly.
+Bytes converted(const Bytes &run, uint32_t layout) {
+    // no run becomes more than twice as long
+    Bytes room(2 * run.size() + 1, unused);
+    size_t written = 77;
+    check(mehkura_convert(start(run), run.size(), layout, room.data(), room.size(), &written) == 0, "a run is converted");
+    check(written <= room.size(), "the length is one that the room has");
+    for (size_t i = written; i < room.size(); ++i) check(room[i] == unused, "the room after the run is as it was");
+    Bytes exact(written, unused);
+    size_t again = 77;
+    check(mehkura_convert(start(run), run.size(), layout, start(exact), exact.size(), &again) == 0 && again == written, "a room exactly full");
+    room.resize(written);
+    check(exact == room, "the same bytes in both rooms");
+    return exact;
+}
+
+// The conversion is refused, and everything is as it was after it.
+void unconverted(const Bytes &run, uint32_t layout, size_t room_len, uint32_t number, const std::string &what) {
+    Bytes room(room_len, unused);
+    const Bytes before = room;
+    size_t written = 77;
+    check(mehkura_convert(start(run), run.size(), layout, start(room), room.size(), &written) == number, what);
+    check(written == 77 && room == before, what + ": all as it was");
+}
+
+// What a file holds to which the bytes were written. The file is gone after that.
+Bytes shelved(const Bytes &bytes) {
+    std::FILE *shelf = std::tmpfile();
+    check(shelf != nullptr, "there is a file for the shelf copy");
+    check(std::fwrite(start(bytes), 1, bytes.size(), shelf) == bytes.size(), "the shelf copy can be written");
+    std::rewind(shelf);
+    Bytes kept(bytes.size() + 1);
+    kept.resize(std::fread(kept.data(), 1, kept.size(), shelf));
+    std::fclose(shelf);
+    return kept;
+}
+
+// Each sample on the shelf: its run is kept in the narrow layout, read back, and evaluates as the wide one does.
+void shelf(const std::string &samples) {
+    size_t wide = 0, narrow = 0;
+    for (const char *name : {"count", "conditions", "constants", "two_records"}) {
+        const Bytes run = work(samples + "/" + name + ".bin").run();
+        const Bytes kept = shelved(converted(run, MEHKURA_WIDE));
+        check(kept.size() < run.size(), "the shelf copy is shorter");
+        check(mehkura_shape(start(run), run.size(), MEHKURA_WIDE) == 0 && mehkura_shape(start(kept), kept.size(), MEHKURA_NARROW) == 0,
+              "each is well-formed in its layout");
+        check(mehkura_shape(start(run), run.size(), MEHKURA_NARROW) == 7 && mehkura_shape(start(kept), kept.size(), MEHKURA_WIDE) == 7,
+              "neither is well-formed in the other one");
+        check(converted(kept, MEHKURA_NARROW) == run, "converted back it is the same bytes");
+        for (const auto &constants : {std::vector<uint32_t>{0}, std::vector<uint32_t>(32 * 16384, 5)}) {
+            State a;
+            for (size_t i = 0; i < MEHKURA_REGISTERS; ++i) a.registers[i] = static_cast<uint32_t>(0x9e3779b9u * (i + 1));
+            for (size_t i = 0; i < MEHKURA_TRUTHS; ++i) a.truths[i] = i % 2;
+            State b = a;
+            check(a.run(run, MEHKURA_WIDE, constants) == b.run(kept, MEHKURA_NARROW, constants) && a == b, "both evaluate alike");
+        }
+        for (size_t room : {size_t(0), kept.size() - 1}) unconverted(run, MEHKURA_WIDE, room, 6, "6 for a room that is too short for the shelf copy");
+        for (size_t room : {size_t(0), run.size() - 1}) unconverted(kept, MEHKURA_NARROW, room, 6, "6 for a room that is too short for the run");
+        wide += run.size();
+        narrow += kept.size();
+    }
+    std::printf("shelf: the samples in %zu bytes instead of %zu\n", narrow, wide);
+}
+
+// Every refusal of the conversion, 7 before 6, and of the shape test.
+void conversions() {
+    auto refuses = [](const Bytes &run, uint32_t layout, const std::string &what) {
+        check(mehkura_shape(start(run), run.size(), layout) == 7, what);
+        for (size_t room : {0, 1, 64}) unconverted(run, layout, room, 7, what);
+    };
+    // true, stored to predicate 0: the reference is 0
+    const Bytes wide{2, 8, 0, 0, 0, 0xff}, narrow{2, 8, 0, 0, 0xff};
+    check(converted(wide, MEHKURA_WIDE) == narrow && converted(narrow, MEHKURA_NARROW) == wide, "a reference of two bytes, and of one");
+    refuses({2, 8, 0, 0, 1, 0xff}, MEHKURA_WIDE, "7 for a reference of 0x0100, which is not 0");
+    for (uint8_t reference : {1, 63, 64, 255}) refuses({2, 8, 0, reference, 0xff}, MEHKURA_NARROW, "7 for a reference to no value");
+    refuses(wide, MEHKURA_NARROW, "7 for a wide run as a narrow one");
+    refuses(narrow, MEHKURA_WIDE, "7 for a narrow run as a wide one");
+    refuses(joined(wide, {0}), MEHKURA_WIDE, "7 for bytes after the run");
+    for (uint32_t layout : no_layouts) {
+        refuses(wide, layout, "7 for a layout that is none");
+        refuses({}, layout, "7 for a layout that is none, and a run of no bytes");
+    }
+    for (uint32_t layout : {MEHKURA_WIDE, MEHKURA_NARROW}) check(converted({}, layout).empty(), "a run of no bytes stays one");
+
+    // eight loads, then bytes that are one thing wide and another narrow: R40 = R0 + R7, or R0 = R7
+    Bytes both;
+    for (uint8_t i = 0; i < 8; ++i) both.insert(both.end(), {4, i});
+    both.insert(both.end(), {40, 0, 0, 7, 0, 7, 40, 8, 0, 0xff});
+    for (uint32_t layout : {MEHKURA_WIDE, MEHKURA_NARROW}) {
+        State s, end;
+        s.registers[0] = 256;
+        s.registers[7] = 32;
+        end = s;
+        end.registers[layout == MEHKURA_WIDE ? 40 : 0] = layout == MEHKURA_WIDE ? 288 : 32;
+        check(s.run(both, layout, {0}) == 0 && s == end, "the layout says what the bytes mean");
+    }
+    std::puts("conversions: refusals 7 and 6, bytes that mean two things");
+}
+
 } // namespace
 
 int main(int argc, char **argv) {
     const std::string samples = argc > 1 ? argv[1] : "samples";
     translations();
     evaluations();
+    conversions();
+    shelf(samples);
     one_room(samples);
     count(samples);
     conditions(samples);

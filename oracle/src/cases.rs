@@ -7,7 +7,7 @@
 use std::collections::BTreeSet;
 
 use crate::evaluate::{Refusal, State, evaluate};
-use crate::format::{Immediate, MAX_ENTRIES, Value, layout};
+use crate::format::{Immediate, Layout, MAX_ENTRIES, Value, signature};
 use crate::starts::ALL_WORDS;
 
 const MIN: u32 = 0x8000_0000;
@@ -103,7 +103,7 @@ impl Case {
     /// changed, the name.
     pub fn answer(&self, constants: &[u32]) -> String {
         let before = start();
-        let (number, after) = match evaluate(&self.run, &before, &constants[..self.lent]) {
+        let (number, after) = match evaluate(&self.run, Layout::Wide, &before, &constants[..self.lent]) {
             Ok(after) => ("0".to_owned(), after),
             Err(refusal) => (told(refusal), before.clone()),
         };
@@ -377,11 +377,11 @@ fn selects(list: &mut List) {
 
 fn undefined_operands(list: &mut List) {
     for kind in (20..=93).filter(|kind| *kind != 90) {
-        let Some(layout) = layout(kind) else { continue };
-        let store = if layout.result == Some(Value::Word) { "07 05 0700" } else { "08 00 0700" };
+        let Some(signature) = signature(kind) else { continue };
+        let store = if signature.result == Some(Value::Word) { "07 05 0700" } else { "08 00 0700" };
         // Operands 0 and true are fine for every kind.
-        let defined = layout.operands.iter().map(|sort| if *sort == Value::Word { 0 } else { 3 });
-        for place in 0..layout.operands.len() {
+        let defined = signature.operands.iter().map(|sort| if *sort == Value::Word { 0 } else { 3 });
+        for place in 0..signature.operands.len() {
             let mut operands: Vec<u16> = defined.clone().collect();
             operands[place] += if operands[place] == 0 { 2 } else { 1 };
             let title = format!("undefined into operand {} of {}", place + 1, name(kind));
@@ -705,12 +705,12 @@ fn number_of(sort: Value) -> u16 {
 
 /// References to [`VALUES`] of the sorts that the kind asks for.
 fn right_numbers(kind: u8) -> Vec<u16> {
-    layout(kind).expect("a known kind").operands.iter().copied().map(number_of).collect()
+    signature(kind).expect("a known kind").operands.iter().copied().map(number_of).collect()
 }
 
 /// An entry after [`VALUES`] with the references given, its byte 1 or its word 0.
 fn entry(kind: u8, numbers: impl IntoIterator<Item = u16>) -> String {
-    let immediate = match layout(kind).expect("a known kind").immediate {
+    let immediate = match signature(kind).expect("a known kind").immediate {
         Immediate::None => "",
         Immediate::Word => "00000000",
         Immediate::Byte(..) => "01",
@@ -753,10 +753,10 @@ fn shape_kinds(list: &mut List) {
     list.add("refused 7: kind 254 in place of an end", "02 | fe");
     list.add("refused 7: kind 128", "80 | ff");
     for kind in (1..=110).filter(|kind| *kind != 101) {
-        let Some(layout) = layout(kind) else { continue };
+        let Some(signature) = signature(kind) else { continue };
         let entry = entry(kind, right_numbers(kind));
         list.lend(1, format!("kind {kind}, {}", name(kind)), &format!("{VALUES} {entry} | {}", rest(kind)));
-        if !layout.operands.is_empty() || layout.immediate != Immediate::None {
+        if !signature.operands.is_empty() || signature.immediate != Immediate::None {
             list.lend(1, format!("refused 7: {} cut", name(kind)), &format!("{VALUES} {}", &entry[..entry.len() - 2]));
         }
     }
@@ -767,8 +767,8 @@ fn shape_kinds(list: &mut List) {
 fn shape_references(list: &mut List) {
     // One kind of each group of operands.
     for kind in [7, 8, 9, 11, 12, 20, 40, 60, 80, 81, 90, 91, 93, 100] {
-        let layout = layout(kind).expect("a known kind");
-        for (place, right) in layout.operands.iter().enumerate() {
+        let signature = signature(kind).expect("a known kind");
+        for (place, right) in signature.operands.iter().enumerate() {
             let mut add = |number: u16, title: &str, after: &str| {
                 let mut numbers = right_numbers(kind);
                 numbers[place] = number;
@@ -778,7 +778,7 @@ fn shape_references(list: &mut List) {
             for (sort, title, _) in SORTS.iter().filter(|(sort, ..)| sort != right) {
                 add(number_of(*sort), title, "");
             }
-            let made = layout.result.is_some();
+            let made = signature.result.is_some();
             if made {
                 add(4, "itself", "");
             }

@@ -3,8 +3,8 @@
 //! This is the partner of the ported evaluation in comparisons of answers and of speed. What an operation means is
 //! taken from the SPIR-V specification and from GLSL.std.450.
 
-use crate::format::{Immediate, MAX_ENTRIES, layout};
-use crate::shape::{body, shape_ok};
+use crate::format::{Layout, MAX_ENTRIES, NARROW, Rest, WIDE, entry_lens};
+use crate::shape::shape_ok_watched;
 
 /// Constant words in one slot.
 pub const SLOT_WORDS: usize = 16_384;
@@ -49,14 +49,21 @@ impl Refusal {
 }
 
 /// The state after the run, or the refusal. The shape of the whole run is tested first.
-pub fn evaluate(run: &[u8], state: &State, constants: &[u32]) -> Result<State, Refusal> {
-    if !shape_ok(run) {
+pub fn evaluate(run: &[u8], layout: Layout, state: &State, constants: &[u32]) -> Result<State, Refusal> {
+    match layout {
+        Layout::Wide => evaluate_run::<WIDE>(run, state, constants),
+        Layout::Narrow => evaluate_run::<NARROW>(run, state, constants),
+    }
+}
+
+fn evaluate_run<const REF: usize>(run: &[u8], state: &State, constants: &[u32]) -> Result<State, Refusal> {
+    if !shape_ok_watched::<REF>(run, &mut ()) {
         return Err(Refusal::Shape);
     }
     let mut state = state.clone();
     let mut values = Values { numbers: [None; MAX_ENTRIES], count: 0 };
-    let mut rest = run;
-    while !rest.is_empty() {
+    let mut rest = Rest::<REF>(run);
+    while !rest.0.is_empty() {
         values.count = 0;
         rest = evaluate_strip(rest, &mut state, &mut values, constants)?;
     }
@@ -65,7 +72,7 @@ pub fn evaluate(run: &[u8], state: &State, constants: &[u32]) -> Result<State, R
 
 /// The values of a strip so far. A word is its bits, a truth 1 or 0, a slot its number, an address the place of its
 /// word in the list; `None` is undefined. The shape test has made sure that each reference names a value of the right
-/// sort, so a reference is its low byte.
+/// sort.
 struct Values {
     numbers: [Option<u32>; MAX_ENTRIES],
     count: usize,
@@ -73,7 +80,7 @@ struct Values {
 
 impl Values {
     #[inline(always)]
-    fn get(&self, reference: u8) -> Option<u32> {
+    fn get(&self, reference: u16) -> Option<u32> {
         self.numbers[usize::from(reference) % MAX_ENTRIES]
     }
 
@@ -90,22 +97,34 @@ impl Values {
 
     /// An entry with one reference.
     #[inline(always)]
-    fn unary(&mut self, rest: &mut &[u8], result: impl FnOnce(u32) -> u32) -> Result<(), Refusal> {
-        let [a, _] = take(rest)?;
+    fn unary<const REF: usize>(
+        &mut self,
+        rest: &mut Rest<REF>,
+        result: impl FnOnce(u32) -> u32,
+    ) -> Result<(), Refusal> {
+        let ([], [a]) = take(rest)?;
         self.push(self.get(a).map(result));
         Ok(())
     }
 
     /// An entry with two references.
     #[inline(always)]
-    fn binary(&mut self, rest: &mut &[u8], result: impl FnOnce(u32, u32) -> u32) -> Result<(), Refusal> {
+    fn binary<const REF: usize>(
+        &mut self,
+        rest: &mut Rest<REF>,
+        result: impl FnOnce(u32, u32) -> u32,
+    ) -> Result<(), Refusal> {
         self.partial(rest, |a, b| Some(result(a, b)))
     }
 
     /// An entry with two references whose result may be undefined.
     #[inline(always)]
-    fn partial(&mut self, rest: &mut &[u8], result: impl FnOnce(u32, u32) -> Option<u32>) -> Result<(), Refusal> {
-        let [a, _, b, _] = take(rest)?;
+    fn partial<const REF: usize>(
+        &mut self,
+        rest: &mut Rest<REF>,
+        result: impl FnOnce(u32, u32) -> Option<u32>,
+    ) -> Result<(), Refusal> {
+        let ([], [a, b]) = take(rest)?;
         self.push(match (self.get(a), self.get(b)) {
             (Some(a), Some(b)) => result(a, b),
             _ => None,
@@ -115,20 +134,32 @@ impl Values {
 
     /// An entry that compares two words.
     #[inline(always)]
-    fn compare(&mut self, rest: &mut &[u8], result: impl FnOnce(u32, u32) -> bool) -> Result<(), Refusal> {
+    fn compare<const REF: usize>(
+        &mut self,
+        rest: &mut Rest<REF>,
+        result: impl FnOnce(u32, u32) -> bool,
+    ) -> Result<(), Refusal> {
         self.binary(rest, |a, b| result(a, b).into())
     }
 
     /// An entry that compares two words as signed numbers.
     #[inline(always)]
-    fn compare_signed(&mut self, rest: &mut &[u8], result: impl FnOnce(i32, i32) -> bool) -> Result<(), Refusal> {
+    fn compare_signed<const REF: usize>(
+        &mut self,
+        rest: &mut Rest<REF>,
+        result: impl FnOnce(i32, i32) -> bool,
+    ) -> Result<(), Refusal> {
         self.binary(rest, |a, b| result(a as i32, b as i32).into())
     }
 
     /// An entry that takes a field out of a word: base, offset, length.
     #[inline(always)]
-    fn extract(&mut self, rest: &mut &[u8], result: impl FnOnce(u32, u32, u32) -> u32) -> Result<(), Refusal> {
-        let [base, _, offset, _, length, _] = take(rest)?;
+    fn extract<const REF: usize>(
+        &mut self,
+        rest: &mut Rest<REF>,
+        result: impl FnOnce(u32, u32, u32) -> u32,
+    ) -> Result<(), Refusal> {
+        let ([], [base, offset, length]) = take(rest)?;
         self.push(match (self.get(base), self.get(offset), self.get(length)) {
             (Some(base), Some(offset), Some(length)) if field_fits(offset, length) => {
                 Some(result(base, offset, length))
@@ -139,59 +170,60 @@ impl Values {
     }
 }
 
-/// Bytes of a body. The shape test has made sure that they are there.
+/// A body. The shape test has made sure that it is there.
 #[inline(always)]
-fn take<const N: usize>(rest: &mut &[u8]) -> Result<[u8; N], Refusal> {
-    body(rest).ok_or(Refusal::Shape)
+fn take<const REF: usize, const BYTES: usize, const REFS: usize>(
+    rest: &mut Rest<REF>,
+) -> Result<([u8; BYTES], [u16; REFS]), Refusal> {
+    rest.body().ok_or(Refusal::Shape)
 }
 
 /// Runs the first strip and gives what lies after it.
-fn evaluate_strip<'a>(
-    strip: &'a [u8],
+fn evaluate_strip<'a, const REF: usize>(
+    strip: Rest<'a, REF>,
     state: &mut State,
     v: &mut Values,
     constants: &[u32],
-) -> Result<&'a [u8], Refusal> {
+) -> Result<Rest<'a, REF>, Refusal> {
     let mut rest = strip;
     loop {
-        let [kind] = take(&mut rest)?;
-        match kind {
+        match rest.kind().ok_or(Refusal::Shape)? {
             1 => {
-                let word = take(&mut rest)?;
+                let (word, []) = take(&mut rest)?;
                 v.push(Some(u32::from_le_bytes(word)));
             }
             2 => v.push_truth(true),
             3 => v.push_truth(false),
             4 => {
-                let [cell] = take(&mut rest)?;
+                let ([cell], []) = take(&mut rest)?;
                 v.push(Some(state.registers[usize::from(cell)]));
             }
             5 => {
-                let [cell] = take(&mut rest)?;
+                let ([cell], []) = take(&mut rest)?;
                 v.push_truth(state.predicates[usize::from(cell)]);
             }
             6 => {
-                let [cell] = take(&mut rest)?;
+                let ([cell], []) = take(&mut rest)?;
                 v.push_truth(state.flags[usize::from(cell)]);
             }
             7 => {
-                let [cell, a, _] = take(&mut rest)?;
+                let ([cell], [a]) = take(&mut rest)?;
                 state.registers[usize::from(cell)] = v.get(a).ok_or(Refusal::Undefined)?;
             }
             8 => {
-                let [cell, a, _] = take(&mut rest)?;
+                let ([cell], [a]) = take(&mut rest)?;
                 state.predicates[usize::from(cell)] = v.get(a).ok_or(Refusal::Undefined)? != 0;
             }
             9 => {
-                let [cell, a, _] = take(&mut rest)?;
+                let ([cell], [a]) = take(&mut rest)?;
                 state.flags[usize::from(cell)] = v.get(a).ok_or(Refusal::Undefined)? != 0;
             }
             10 => {
-                let [slot] = take(&mut rest)?;
+                let ([slot], []) = take(&mut rest)?;
                 v.push(Some(slot.into()));
             }
             11 => {
-                let [slot, _, zero, _, vec, _, comp, _] = take(&mut rest)?;
+                let ([], [slot, zero, vec, comp]) = take(&mut rest)?;
                 let operands = (v.get(slot), v.get(zero), v.get(vec), v.get(comp));
                 let (Some(slot), Some(zero), Some(vec), Some(comp)) = operands else {
                     return Err(Refusal::Undefined);
@@ -203,7 +235,7 @@ fn evaluate_strip<'a>(
                 v.push(Some(element as u32));
             }
             12 => {
-                let [a, _] = take(&mut rest)?;
+                let ([], [a]) = take(&mut rest)?;
                 v.push(v.get(a).map(|element| constants[element as usize]));
             }
             20 => v.unary(&mut rest, |a| !a)?,
@@ -245,13 +277,13 @@ fn evaluate_strip<'a>(
             83 => v.binary(&mut rest, |a, b| a ^ b)?,
             // Only the chosen word is looked at.
             90 => {
-                let [condition, _, a, _, b, _] = take(&mut rest)?;
+                let ([], [condition, a, b]) = take(&mut rest)?;
                 v.push(v.get(condition).and_then(|truth| v.get(if truth != 0 { a } else { b })));
             }
             91 => v.extract(&mut rest, extract_u)?,
             92 => v.extract(&mut rest, extract_s)?,
             93 => {
-                let [base, _, insert, _, offset, _, length, _] = take(&mut rest)?;
+                let ([], [base, insert, offset, length]) = take(&mut rest)?;
                 v.push(match (v.get(base), v.get(insert), v.get(offset), v.get(length)) {
                     (Some(base), Some(insert), Some(offset), Some(length)) if field_fits(offset, length) => {
                         Some(insert_field(base, insert, offset, length))
@@ -260,14 +292,14 @@ fn evaluate_strip<'a>(
                 });
             }
             100 => {
-                let [a, _] = take(&mut rest)?;
+                let ([], [a]) = take(&mut rest)?;
                 if v.get(a).ok_or(Refusal::Undefined)? == 0 {
                     return skip_to_end(rest);
                 }
             }
             101 => {}
             110 => {
-                let [_] = take(&mut rest)?;
+                let ([_], []) = take(&mut rest)?;
             }
             255 => return Ok(rest),
             _ => return Err(Refusal::Shape),
@@ -275,33 +307,16 @@ fn evaluate_strip<'a>(
     }
 }
 
-/// Bytes in the body of each kind.
-const BODY_LEN: [u8; 256] = {
-    let mut lens = [0; 256];
-    let mut kind = 0;
-    while kind < lens.len() {
-        if let Some(layout) = layout(kind as u8) {
-            let immediate = match layout.immediate {
-                Immediate::None => 0,
-                Immediate::Word => 4,
-                Immediate::Byte(..) => 1,
-            };
-            lens[kind] = immediate + 2 * layout.operands.len() as u8;
-        }
-        kind += 1;
-    }
-    lens
-};
-
 /// What lies after the strip whose block is skipped. The close stands directly before the end, so nothing of the strip
 /// is left to run.
-fn skip_to_end(mut rest: &[u8]) -> Result<&[u8], Refusal> {
+fn skip_to_end<const REF: usize>(mut rest: Rest<REF>) -> Result<Rest<REF>, Refusal> {
+    let lens = const { &entry_lens(REF) };
     loop {
-        let [kind] = take(&mut rest)?;
+        let kind = *rest.0.first().ok_or(Refusal::Shape)?;
+        rest.0 = rest.0.get(usize::from(lens[usize::from(kind)])..).ok_or(Refusal::Shape)?;
         if kind == 255 {
             return Ok(rest);
         }
-        rest = rest.get(usize::from(BODY_LEN[usize::from(kind)])..).ok_or(Refusal::Shape)?;
     }
 }
 

@@ -1,4 +1,55 @@
-//! The strip format of 01: which entry kinds there are, how long a body is, what it refers to and what it makes.
+//! The strip format of 01: which entry kinds there are, how long a body is, what it refers to and what it makes. The two
+//! layouts of #102 differ in the length of a reference alone.
+
+/// How the entries of a run lie in bytes. Who reads a run is told its layout: the same bytes may be well-formed in both
+/// and mean two things.
+#[derive(Clone, Copy, Debug, PartialEq, Eq)]
+pub enum Layout {
+    /// A reference in 2 bytes, little-endian: what translation writes and reach reads.
+    Wide = 0,
+    /// A reference in 1 byte: the shelf copy.
+    Narrow = 1,
+}
+
+/// Bytes of a reference in the two layouts.
+pub const WIDE: usize = Layout::Wide.ref_len();
+pub const NARROW: usize = Layout::Narrow.ref_len();
+
+impl Layout {
+    pub const ALL: [Layout; 2] = [Layout::Wide, Layout::Narrow];
+
+    /// The number that callers of the library give.
+    pub const fn number(self) -> u32 {
+        self as u32
+    }
+
+    /// The layout with this number, or `None` if there is none: then no run is well-formed.
+    pub fn from_number(number: u32) -> Option<Layout> {
+        Layout::ALL.into_iter().find(|layout| layout.number() == number)
+    }
+
+    pub const fn name(self) -> &'static str {
+        match self {
+            Layout::Wide => "wide",
+            Layout::Narrow => "narrow",
+        }
+    }
+
+    pub const fn other(self) -> Layout {
+        match self {
+            Layout::Wide => Layout::Narrow,
+            Layout::Narrow => Layout::Wide,
+        }
+    }
+
+    /// Bytes of a reference.
+    pub const fn ref_len(self) -> usize {
+        match self {
+            Layout::Wide => 2,
+            Layout::Narrow => 1,
+        }
+    }
+}
 
 /// Kinds of values that a reference can name.
 #[derive(Clone, Copy, Debug, PartialEq, Eq)]
@@ -19,9 +70,9 @@ pub enum Immediate {
     Byte(u8, u8),
 }
 
-/// The layout of one entry kind.
+/// What the entries of one kind take and make.
 #[derive(Clone, Copy, Debug, PartialEq, Eq)]
-pub struct Layout {
+pub struct Signature {
     pub immediate: Immediate,
     /// What each reference must name, in order.
     pub operands: &'static [Value],
@@ -54,8 +105,8 @@ pub mod kind {
 /// No strip has more entries, the end included.
 pub const MAX_ENTRIES: usize = 64;
 
-/// The layout of a kind, or `None` if there is no such kind.
-pub const fn layout(kind: u8) -> Option<Layout> {
+/// The signature of a kind, or `None` if there is no such kind.
+pub const fn signature(kind: u8) -> Option<Signature> {
     use Value::{Address, Slot, Truth, Word};
     const REGISTER: Immediate = Immediate::Byte(0, 254);
     const PREDICATE: Immediate = Immediate::Byte(0, 6);
@@ -88,7 +139,50 @@ pub const fn layout(kind: u8) -> Option<Layout> {
         255 => (Immediate::None, &[], None),
         _ => return None,
     };
-    Some(Layout { immediate, operands, result })
+    Some(Signature { immediate, operands, result })
+}
+
+/// Bytes of an entry of each kind, 1 where there is no such kind. A reference takes `ref_len`.
+pub(crate) const fn entry_lens(ref_len: usize) -> [u8; 256] {
+    let mut lens = [1; 256];
+    let mut kind = 0;
+    while kind < lens.len() {
+        if let Some(signature) = signature(kind as u8) {
+            let immediate = match signature.immediate {
+                Immediate::None => 0,
+                Immediate::Word => 4,
+                Immediate::Byte(..) => 1,
+            };
+            lens[kind] += immediate + (ref_len * signature.operands.len()) as u8;
+        }
+        kind += 1;
+    }
+    lens
+}
+
+/// The bytes of a run that are not read yet. A reference takes `REF` of them.
+#[derive(Clone, Copy)]
+pub(crate) struct Rest<'a, const REF: usize>(pub &'a [u8]);
+
+impl<const REF: usize> Rest<'_, REF> {
+    /// Splits off a kind.
+    #[inline(always)]
+    pub fn kind(&mut self) -> Option<u8> {
+        let (kind, after) = self.0.split_first()?;
+        self.0 = after;
+        Some(*kind)
+    }
+
+    /// Splits off a body: the bytes of an immediate, then references, each as its number.
+    #[inline(always)]
+    pub fn body<const BYTES: usize, const REFS: usize>(&mut self) -> Option<([u8; BYTES], [u16; REFS])> {
+        let (body, after) = self.0.split_at_checked(BYTES + REFS * REF)?;
+        self.0 = after;
+        let (bytes, refs) = body.split_first_chunk()?;
+        let refs: &[[u8; REF]; REFS] = refs.as_chunks().0.first_chunk()?;
+        let number = |bytes: [u8; REF]| bytes.iter().rev().fold(0, |number, byte| number << 8 | u16::from(*byte));
+        Some((*bytes, refs.map(number)))
+    }
 }
 
 /// One entry of a strip.
@@ -113,17 +207,20 @@ impl Entry {
         &self.refs[..self.ref_count as usize]
     }
 
-    /// Appends the entry's bytes: the kind, the immediate, the references in 2 bytes each, little-endian.
-    pub fn write(&self, out: &mut Vec<u8>) {
-        let layout = layout(self.kind).expect("entries have known kinds");
+    /// Appends the entry's bytes: the kind, the immediate, the references in `REF` bytes each, little-endian.
+    fn write<const REF: usize>(&self, out: &mut Vec<u8>) {
+        let signature = signature(self.kind).expect("entries have known kinds");
         out.push(self.kind);
-        match layout.immediate {
+        match signature.immediate {
             Immediate::None => {}
             Immediate::Word => out.extend_from_slice(&self.immediate.to_le_bytes()),
             Immediate::Byte(..) => out.push(self.immediate as u8),
         }
         for r in self.refs() {
-            out.extend_from_slice(&r.to_le_bytes());
+            let bytes = r.to_le_bytes();
+            let (kept, dropped) = bytes.split_at(REF);
+            assert!(dropped.iter().all(|byte| *byte == 0), "reference {r} in {REF} bytes");
+            out.extend_from_slice(kept);
         }
     }
 }
@@ -134,16 +231,23 @@ impl std::fmt::Debug for Entry {
     }
 }
 
-/// The bytes of a strip.
-pub fn encode(entries: &[Entry]) -> Vec<u8> {
+/// The bytes of a strip. Panics if a reference is too large for the layout.
+pub fn encode(entries: &[Entry], layout: Layout) -> Vec<u8> {
+    match layout {
+        Layout::Wide => encode_strip::<WIDE>(entries),
+        Layout::Narrow => encode_strip::<NARROW>(entries),
+    }
+}
+
+fn encode_strip<const REF: usize>(entries: &[Entry]) -> Vec<u8> {
     let mut out = Vec::with_capacity(entries.len() * 5);
     for entry in entries {
-        entry.write(&mut out);
+        entry.write::<REF>(&mut out);
     }
     out
 }
 
 /// How many of the entries make a value.
 pub fn value_count(entries: &[Entry]) -> usize {
-    entries.iter().filter(|e| layout(e.kind).is_some_and(|l| l.result.is_some())).count()
+    entries.iter().filter(|e| signature(e.kind).is_some_and(|s| s.result.is_some())).count()
 }

@@ -1,13 +1,15 @@
 //! The judge of the port: the unchanged text of the reference translator, run over stand-ins that record each call.
 //!
 //! - [`translate`] and [`translate_into`] give a record's strip or its refusal.
-//! - [`shape`] tests a run of strips in plain Rust, [`evaluate`] runs it, [`mod@reach`] says which cells matter to it.
+//! - [`shape`] tests a run of strips in plain Rust, [`evaluate`] runs it, [`mod@reach`] says which cells matter to it,
+//!   [`mod@convert`] writes it in the other layout.
 //! - [`mod@meaning`] says what a record does to a state, without any strip.
 //! - [`generate`] makes random records, [`strips`] random strips, [`starts`] random states and lists of constants,
 //!   [`vectors`] the stored list of answers, [`cases`] hand-made runs with theirs, [`works`] the lines of the two works.
 //! - [`mod@print`] is the strip printer.
 
 pub mod cases;
+pub mod convert;
 pub mod evaluate;
 pub mod extraction;
 pub mod format;
@@ -26,7 +28,7 @@ pub mod strips;
 pub mod vectors;
 pub mod works;
 
-use format::Entry;
+use format::{Entry, Layout};
 use record::Record;
 pub use reference::Form;
 pub use standins::SLOTS;
@@ -41,9 +43,9 @@ pub fn translate_entries(record: &[u8], marks: &mut Marks) -> Result<Vec<Entry>,
     Ok(reference::run(name, form, record.value, record.word, marks))
 }
 
-/// A record's strip, or the refusal number 1 to 5. A refusal leaves the marks as they are.
+/// A record's strip in the wide layout, or the refusal number 1 to 5. A refusal leaves the marks as they are.
 pub fn translate(record: &[u8], marks: &mut Marks) -> Result<Vec<u8>, u8> {
-    translate_entries(record, marks).map(|entries| format::encode(&entries))
+    translate_entries(record, marks).map(|entries| format::encode(&entries, Layout::Wide))
 }
 
 /// Writes a record's strip at the start of `room` and gives its length, or gives the refusal number 1 to 6. A refusal

@@ -3,11 +3,11 @@
 use std::io::{self, BufReader, BufWriter, Write};
 use std::process::ExitCode;
 
-use oracle::format::value_count;
+use oracle::format::{Layout, encode, value_count};
 use oracle::generate::{random_admitted, random_record};
 use oracle::record::NAMES;
 use oracle::rng::Rng;
-use oracle::{SLOTS, cases, format, print, translate_entries, vectors, works};
+use oracle::{SLOTS, cases, print, translate_entries, vectors, works};
 
 const HELP: &str = "\
 oracle: the unchanged text of the reference translator, run over recording stand-ins
@@ -37,6 +37,9 @@ Usage:
   oracle count COUNT SEED
       Translates COUNT random records and prints for each kind how many were accepted and refused, and the most
       entries, values and bytes in one strip.
+  oracle narrow COUNT SEED
+      Translates COUNT random admitted records and prints how many bytes their strips have in the wide and in the
+      narrow layout, and what the narrow one saves.
   oracle help | --help | -h
       Prints this text.
 
@@ -89,8 +92,9 @@ fn run(args: &[&str]) -> Result<(), Failure> {
         ["works"] => write_all(output, works::lines().as_bytes()),
         ["works", "--records"] => write_all(output, &works::input()),
         ["count", count, seed] => statistics(output, number(count)?, number(seed)?),
+        ["narrow", count, seed] => narrow(output, number(count)?, number(seed)?),
         [] => Err(Failure::Usage("no command".to_owned())),
-        [command @ ("print" | "gen" | "vectors" | "cases" | "works" | "count"), ..] => {
+        [command @ ("print" | "gen" | "vectors" | "cases" | "works" | "count" | "narrow"), ..] => {
             Err(Failure::Usage(format!("wrong arguments for `{command}`")))
         }
         [command, ..] => Err(Failure::Usage(format!("no command `{command}`"))),
@@ -143,7 +147,7 @@ fn statistics(mut output: impl Write, count: u64, seed: u64) -> Result<(), Failu
                 row.accepted += 1;
                 row.entries = row.entries.max(entries.len());
                 row.values = row.values.max(value_count(&entries));
-                row.bytes = row.bytes.max(format::encode(&entries).len());
+                row.bytes = row.bytes.max(encode(&entries, Layout::Wide).len());
             }
             Err(number) => {
                 row.refused += 1;
@@ -170,6 +174,21 @@ fn statistics(mut output: impl Write, count: u64, seed: u64) -> Result<(), Failu
     for (number, times) in refusals.iter().enumerate().skip(2) {
         writeln!(output, "refused {number}: {times}")?;
     }
+    Ok(output.flush()?)
+}
+
+fn narrow(mut output: impl Write, count: u64, seed: u64) -> Result<(), Failure> {
+    let mut rng = Rng::new(seed);
+    let mut marks = [0; SLOTS];
+    let (mut wide, mut narrow) = (0, 0);
+    for _ in 0..count {
+        let record = random_admitted(&mut rng).to_bytes();
+        let entries = translate_entries(&record, &mut marks).expect("an admitted record");
+        wide += encode(&entries, Layout::Wide).len();
+        narrow += encode(&entries, Layout::Narrow).len();
+    }
+    let saved = 100.0 * (wide - narrow) as f64 / wide.max(1) as f64;
+    writeln!(output, "{count} strips: {wide} bytes wide, {narrow} bytes narrow, {saved:.1} % saved")?;
     Ok(output.flush()?)
 }
 

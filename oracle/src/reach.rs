@@ -2,9 +2,10 @@
 //!
 //! This is the partner of the ported reach in comparisons of answers and of speed. The cells are bytes, as the library
 //! takes them: registers, predicates, flags and constant slots in this order; a cell is listed if its byte is not 0.
+//! The run is in the wide layout.
 
 use crate::SLOTS;
-use crate::format::{Immediate, kind, layout};
+use crate::format::{Layout, WIDE, entry_lens, kind};
 use crate::shape::{Watch, shape_ok, shape_ok_watched};
 
 /// Where the predicates begin, after 255 registers.
@@ -17,22 +18,7 @@ pub const CONSTANTS: usize = FLAGS + 4;
 pub const CELLS: usize = CONSTANTS + SLOTS;
 
 /// How many bytes an entry of each kind has; 1 where there is no such kind.
-const LENGTHS: [usize; 256] = {
-    let mut lengths = [1; 256];
-    let mut kind = 0;
-    while kind < 256 {
-        if let Some(layout) = layout(kind as u8) {
-            let immediate = match layout.immediate {
-                Immediate::None => 0,
-                Immediate::Word => 4,
-                Immediate::Byte(..) => 1,
-            };
-            lengths[kind] = 1 + immediate + 2 * layout.operands.len();
-        }
-        kind += 1;
-    }
-    lengths
-};
+const LENGTHS: [u8; 256] = entry_lens(WIDE);
 
 /// An entry that loads or stores a cell, or opens a block.
 enum Touch {
@@ -43,7 +29,7 @@ enum Touch {
 
 /// [`reach`] as one writes it first: the shape test, then what each strip touches, then the rule from the last strip back.
 pub fn reach_plain(run: &[u8], cells: &mut [u8]) -> Result<(), u8> {
-    if cells.len() != CELLS || !shape_ok(run) {
+    if cells.len() != CELLS || !shape_ok(run, Layout::Wide) {
         return Err(7);
     }
     for cell in cells.iter_mut() {
@@ -66,7 +52,7 @@ pub fn reach_plain(run: &[u8], cells: &mut [u8]) -> Result<(), u8> {
             kind::END => strips.push(std::mem::take(&mut strip)),
             _ => {}
         }
-        rest = &rest[LENGTHS[usize::from(kind)]..];
+        rest = &rest[usize::from(LENGTHS[usize::from(kind)])..];
     }
     for strip in strips.iter().rev() {
         if !strip.iter().any(|touch| matches!(touch, Touch::Store(cell) if cells[*cell] != 0)) {
@@ -93,7 +79,7 @@ pub fn reach_plain(run: &[u8], cells: &mut [u8]) -> Result<(), u8> {
 pub fn reach(run: &[u8], cells: &mut [u8]) -> Result<(), u8> {
     let cells: &mut [u8; CELLS] = cells.try_into().map_err(|_| 7)?;
     let mut touched = Touched::default();
-    if !shape_ok_watched(run, &mut touched) {
+    if !shape_ok_watched::<WIDE>(run, &mut touched) {
         return Err(7);
     }
     for cell in cells.iter_mut() {

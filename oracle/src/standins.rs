@@ -10,7 +10,7 @@
 
 use std::cell::RefCell;
 
-use crate::format::{Entry, Value, kind, layout};
+use crate::format::{Entry, Value, kind, signature};
 use crate::reference::Form;
 
 /// Constant slots with a use mark.
@@ -124,14 +124,14 @@ impl Recorder {
 
     /// The entry with the numbers of its operands, each of the sort that the kind wants, and what the kind makes.
     fn entry(&self, number: u8, immediate: u32, operands: &[Word]) -> (Entry, Option<Value>) {
-        let layout = layout(number).expect("recorded kinds are known");
-        assert_eq!(operands.len(), layout.operands.len(), "operands of kind {number}");
+        let signature = signature(number).expect("recorded kinds are known");
+        assert_eq!(operands.len(), signature.operands.len(), "operands of kind {number}");
         let mut refs = [0; 4];
-        for ((to, operand), wanted) in refs.iter_mut().zip(operands).zip(layout.operands) {
+        for ((to, operand), wanted) in refs.iter_mut().zip(operands).zip(signature.operands) {
             *to = self.number(*operand);
             assert_eq!(self.values[usize::from(*to)].0, *wanted, "operand {to} of kind {number}");
         }
-        (Entry::new(number, immediate, &refs[..operands.len()]), layout.result)
+        (Entry::new(number, immediate, &refs[..operands.len()]), signature.result)
     }
 
     /// Records an entry that makes a value of type `ty`.

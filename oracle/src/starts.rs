@@ -2,6 +2,7 @@
 
 use crate::SLOTS;
 use crate::evaluate::{Refusal, SLOT_WORDS, State, element, evaluate};
+use crate::format::Layout;
 use crate::rng::Rng;
 
 /// Words that addresses can name.
@@ -50,13 +51,13 @@ pub fn random_words(rng: &mut Rng) -> Vec<u32> {
 }
 
 /// How many of the words to lend to the run: none, some, just enough, one less than that, or all.
-pub fn random_list_len(rng: &mut Rng, run: &[u8], state: &State, words: &[u32]) -> usize {
+pub fn random_list_len(rng: &mut Rng, run: &[u8], layout: Layout, state: &State, words: &[u32]) -> usize {
     match rng.below(16) {
         0 => 0,
         1 => rng.below(65),
         2..=5 => rng.below(5000),
-        6..=10 => enough(run, state, words),
-        11 => enough(run, state, words).saturating_sub(1),
+        6..=10 => enough(run, layout, state, words),
+        11 => enough(run, layout, state, words).saturating_sub(1),
         12..=14 => ALL_WORDS,
         _ => words.len(),
     }
@@ -64,11 +65,11 @@ pub fn random_list_len(rng: &mut Rng, run: &[u8], state: &State, words: &[u32]) 
 
 /// The length of the shortest list with which the run is not refused for lack of a word. A run that is refused for
 /// another reason gets what it needs up to there.
-fn enough(run: &[u8], state: &State, words: &[u32]) -> usize {
+fn enough(run: &[u8], layout: Layout, state: &State, words: &[u32]) -> usize {
     let mut len = 0;
     // Each round lengthens the list, so there is a last one.
     loop {
-        let needed = match evaluate(run, state, &words[..len]) {
+        let needed = match evaluate(run, layout, state, &words[..len]) {
             Err(Refusal::Constant { slot, vec, comp }) => {
                 element(slot.into(), 0, vec, comp).map_or(0, |element| element + 1)
             }

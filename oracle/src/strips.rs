@@ -1,7 +1,7 @@
 //! Random strips: well-formed ones that no record gives, some of them suited to evaluation, near misses, and damaged
 //! bytes.
 
-use crate::format::{Entry, Immediate, MAX_ENTRIES, Value, encode, kind, layout};
+use crate::format::{Entry, Immediate, Layout, MAX_ENTRIES, Value, encode, kind, signature, value_count};
 use crate::rng::Rng;
 use crate::starts::corner_word;
 
@@ -17,7 +17,7 @@ const PLAIN_KINDS: [u8; 52] = {
     let mut found = 0;
     let mut kind = 0;
     while kind < 255 {
-        if layout(kind).is_some() && kind != kind::OPEN && kind != kind::CLOSE {
+        if signature(kind).is_some() && kind != kind::OPEN && kind != kind::CLOSE {
             kinds[found] = kind;
             found += 1;
         }
@@ -48,12 +48,12 @@ impl Values {
 
     /// An entry of the kind with fitting operands; `None` if an operand is lacking.
     fn entry(&mut self, rng: &mut Rng, kind: u8) -> Option<Entry> {
-        let layout = layout(kind)?;
+        let signature = signature(kind)?;
         let mut refs = [0; 4];
-        for (to, wanted) in refs.iter_mut().zip(layout.operands) {
+        for (to, wanted) in refs.iter_mut().zip(signature.operands) {
             *to = self.pick(rng, *wanted)?;
         }
-        let immediate = match layout.immediate {
+        let immediate = match signature.immediate {
             Immediate::None => 0,
             Immediate::Word => rng.next_u64() as u32,
             Immediate::Byte(least, most) => match rng.below(4) {
@@ -62,11 +62,11 @@ impl Values {
                 _ => u32::from(least) + rng.below(usize::from(most - least) + 1) as u32,
             },
         };
-        if let Some(sort) = layout.result {
+        if let Some(sort) = signature.result {
             self.numbers[sort as usize].push(self.count);
             self.count += 1;
         }
-        Some(Entry::new(kind, immediate, &refs[..layout.operands.len()]))
+        Some(Entry::new(kind, immediate, &refs[..signature.operands.len()]))
     }
 
     fn has_truth(&self) -> bool {
@@ -153,7 +153,7 @@ impl Maker<'_> {
     /// Adds an entry and gives the number of its value, or 0 if it makes none.
     fn add(&mut self, kind: u8, immediate: u32, refs: &[u16]) -> u16 {
         let number = self.values.len() as u16;
-        if let Some(sort) = layout(kind).expect("known").result {
+        if let Some(sort) = signature(kind).expect("known").result {
             let constant = match kind {
                 kind::WORD => Some(immediate),
                 kind::TRUE => Some(1),
@@ -212,12 +212,12 @@ impl Maker<'_> {
 
     /// An entry of the kind with fitting operands, if there are such.
     fn plain(&mut self, kind: u8, sure: bool) -> Option<()> {
-        let layout = layout(kind).expect("known");
+        let signature = signature(kind).expect("known");
         let mut refs = [0; 4];
-        for (to, wanted) in refs.iter_mut().zip(layout.operands) {
+        for (to, wanted) in refs.iter_mut().zip(signature.operands) {
             *to = self.pick(*wanted, sure)?;
         }
-        let immediate = match layout.immediate {
+        let immediate = match signature.immediate {
             Immediate::None => 0,
             Immediate::Word => corner_word(self.rng),
             // A few cells only, so that later loads meet earlier stores.
@@ -227,7 +227,7 @@ impl Maker<'_> {
                 _ => u32::from(least) + self.rng.below(4) as u32,
             },
         };
-        self.add(kind, immediate, &refs[..layout.operands.len()]);
+        self.add(kind, immediate, &refs[..signature.operands.len()]);
         Some(())
     }
 
@@ -322,11 +322,11 @@ impl Maker<'_> {
     fn undefined_operand(&mut self) -> Option<()> {
         let kinds: Vec<u8> = PLAIN_KINDS.into_iter().filter(|kind| (20..=93).contains(kind)).collect();
         let kind = self.rng.pick(&kinds);
-        let layout = layout(kind).expect("known");
+        let signature = signature(kind).expect("known");
         let count = self.add(kind::WORD, 32, &[]);
         let mut undefined = self.add(43, 0, &[count, count]);
-        let place = self.rng.below(layout.operands.len());
-        if layout.operands[place] == Value::Truth {
+        let place = self.rng.below(signature.operands.len());
+        if signature.operands[place] == Value::Truth {
             undefined = self.add(60, 0, &[undefined, undefined]);
         }
         let truth = self.rng.pick(&[kind::TRUE, kind::FALSE]);
@@ -336,15 +336,15 @@ impl Maker<'_> {
         // Both operands may be the undefined one: a difference of equals.
         let same = self.rng.one_in(4);
         let mut refs = [0; 4];
-        for (at, wanted) in layout.operands.iter().enumerate() {
+        for (at, wanted) in signature.operands.iter().enumerate() {
             refs[at] = match wanted {
-                _ if at == place || same && *wanted == layout.operands[place] => undefined,
+                _ if at == place || same && *wanted == signature.operands[place] => undefined,
                 Value::Truth => truth,
                 _ => word,
             };
         }
-        let result = self.add(kind, 0, &refs[..layout.operands.len()]);
-        let (store, most) = match layout.result {
+        let result = self.add(kind, 0, &refs[..signature.operands.len()]);
+        let (store, most) = match signature.result {
             Some(Value::Word) => (kind::STORE_REGISTER, 254),
             _ => self.rng.pick(&[(kind::STORE_PREDICATE, 6), (kind::STORE_FLAG, 3)]),
         };
@@ -417,14 +417,13 @@ pub fn evaluation_strip(rng: &mut Rng) -> Vec<Entry> {
 
 /// A strip that misses the format by one detail: a limit passed by one, a reference to its own number or to a value of
 /// another kind, a block that is not opened or closed as it should be, one entry too many. Some stay well-formed.
-pub fn near_miss(rng: &mut Rng, mut entries: Vec<Entry>) -> Vec<u8> {
+pub fn near_miss(rng: &mut Rng, mut entries: Vec<Entry>, layout: Layout) -> Vec<u8> {
     let at = rng.below(entries.len());
     let entry = entries[at];
-    let values_before = entries[..at].iter().filter(|e| layout(e.kind).is_some_and(|l| l.result.is_some())).count();
-    let own = values_before as u16;
+    let own = value_count(&entries[..at]) as u16;
     match rng.below(10) {
         0 => {
-            let beyond = match layout(entry.kind).expect("known").immediate {
+            let beyond = match signature(entry.kind).expect("known").immediate {
                 Immediate::Byte(least, most) => {
                     rng.pick(&[u32::from(most) + 1, u32::from(least.saturating_sub(1)), 255])
                 }
@@ -436,7 +435,10 @@ pub fn near_miss(rng: &mut Rng, mut entries: Vec<Entry>) -> Vec<u8> {
             let mut refs = entry.refs().to_vec();
             let which = rng.below(refs.len());
             let any = rng.below(usize::from(own) + 1) as u16;
-            refs[which] = rng.pick(&[own, own.wrapping_sub(1), own + 1, any, refs[which] | 0x100, refs[which] ^ 0x40]);
+            let right = refs[which];
+            let miss = rng.pick(&[own, own.wrapping_sub(1), own + 1, any, right | 0x100, right ^ 0x40, right | 0x80]);
+            // What the layout has no room for is dropped.
+            refs[which] = miss & (u16::MAX >> (16 - 8 * layout.ref_len()));
             entries[at] = Entry::new(entry.kind, entry.immediate, &refs);
         }
         4 => entries.insert(at, Entry::new(kind::CLOSE, 0, &[])),
@@ -451,7 +453,7 @@ pub fn near_miss(rng: &mut Rng, mut entries: Vec<Entry>) -> Vec<u8> {
             entries.swap(at, other);
         }
     }
-    encode(&entries)
+    encode(&entries, layout)
 }
 
 /// Changes bytes without looking at their meaning.

@@ -15,7 +15,7 @@
 
 use std::collections::HashSet;
 
-use crate::format::encode;
+use crate::format::{Layout, encode};
 use crate::generate::{TELLING_VALUES, random_admitted, with_field};
 use crate::record::{I2I, MOV, MOV_SYSTEM_VALUE, NAMES, Record};
 use crate::rng::Rng;
@@ -72,7 +72,7 @@ fn write_answer(out: &mut Vec<u8>, record: &Record) {
     let bytes = record.to_bytes();
     let mut marks = [0; SLOTS];
     let (refusal, strip) = match translate_entries(&bytes, &mut marks) {
-        Ok(entries) => (0, encode(&entries)),
+        Ok(entries) => (0, encode(&entries, Layout::Wide)),
         Err(number) => (number, Vec::new()),
     };
     let raised: Vec<usize> = (0..SLOTS).filter(|&slot| marks[slot] != 0).collect();

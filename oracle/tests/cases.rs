@@ -4,7 +4,7 @@
 use std::collections::{HashMap, HashSet};
 
 use oracle::cases::{Case, answers, cases, constants, lines, name, start};
-use oracle::format::{Immediate, layout};
+use oracle::format::{Immediate, signature};
 
 /// The limits of the program: bytes of input, and bytes of one run.
 const INPUT: usize = 262_144;
@@ -49,15 +49,15 @@ fn every_kind_is_accepted_cut_and_given_undefined_operands() {
     let answers = by_name();
     // A close alone is no strip; the end is in every one.
     for kind in (1..=110).filter(|kind| *kind != 101) {
-        let Some(layout) = layout(kind) else { continue };
+        let Some(signature) = signature(kind) else { continue };
         let title = name(kind);
         assert!(answers[&format!("kind {kind}, {title}")].starts_with('0'), "{title}");
-        if layout.immediate != Immediate::None || !layout.operands.is_empty() {
+        if signature.immediate != Immediate::None || !signature.operands.is_empty() {
             assert_eq!(answers[&format!("refused 7: {title} cut")], "7");
         }
         // Select has cases of its own.
         if (20..=93).contains(&kind) && kind != 90 {
-            for place in 1..=layout.operands.len() {
+            for place in 1..=signature.operands.len() {
                 assert_eq!(answers[&format!("undefined into operand {place} of {title}")], "8");
             }
         }

@@ -4,7 +4,7 @@
 //! In the hex of strips a space stands between kind, immediate and references; `|` is for the eye.
 
 use oracle::evaluate::{Refusal, State, evaluate};
-use oracle::format::{Entry, Immediate, encode, kind, layout};
+use oracle::format::{Entry, Immediate, Layout, encode, kind, signature};
 use oracle::generate::random_admitted;
 use oracle::record::Record;
 use oracle::rng::Rng;
@@ -24,7 +24,7 @@ fn bytes(hex: &str) -> Vec<u8> {
 
 /// Runs the strips of the hex from a state of zeros without constants.
 fn run(hex: &str) -> Result<State, Refusal> {
-    evaluate(&bytes(hex), &State::default(), &[])
+    evaluate(&bytes(hex), Layout::Wide, &State::default(), &[])
 }
 
 /// The hex of a word constant.
@@ -66,7 +66,7 @@ fn constants_and_truths() {
     assert_eq!(state, expected);
     let mut start = State::default();
     start.flags[2] = true;
-    let state = evaluate(&bytes("03 | 09 02 0000 | ff"), &start, &[]).unwrap();
+    let state = evaluate(&bytes("03 | 09 02 0000 | ff"), Layout::Wide, &start, &[]).unwrap();
     assert_eq!(state, State::default());
 }
 
@@ -77,11 +77,11 @@ fn loads_and_stores_of_every_cell() {
         start.registers[cell] = 0x1000 + cell as u32;
     }
     for cell in 0..254u8 {
-        let state = evaluate(&bytes(&format!("04 {cell:02x} | 07 fe 0000 | ff")), &start, &[]).unwrap();
+        let state = evaluate(&bytes(&format!("04 {cell:02x} | 07 fe 0000 | ff")), Layout::Wide, &start, &[]).unwrap();
         let mut expected = start.clone();
         expected.registers[254] = 0x1000 + u32::from(cell);
         assert_eq!(state, expected);
-        let state = evaluate(&bytes(&format!("04 fe | 07 {cell:02x} 0000 | ff")), &start, &[]).unwrap();
+        let state = evaluate(&bytes(&format!("04 fe | 07 {cell:02x} 0000 | ff")), Layout::Wide, &start, &[]).unwrap();
         let mut expected = start.clone();
         expected.registers[usize::from(cell)] = 0x10fe;
         assert_eq!(state, expected);
@@ -90,7 +90,8 @@ fn loads_and_stores_of_every_cell() {
         let mut start = State::default();
         start.predicates[from] = true;
         for to in 0..4 {
-            let state = evaluate(&bytes(&format!("05 {from:02x} | 09 {to:02x} 0000 | ff")), &start, &[]).unwrap();
+            let state =
+                evaluate(&bytes(&format!("05 {from:02x} | 09 {to:02x} 0000 | ff")), Layout::Wide, &start, &[]).unwrap();
             let mut expected = start.clone();
             expected.flags[to] = true;
             assert_eq!(state, expected);
@@ -100,7 +101,8 @@ fn loads_and_stores_of_every_cell() {
         let mut start = State::default();
         start.flags[from] = true;
         for to in 0..7 {
-            let state = evaluate(&bytes(&format!("06 {from:02x} | 08 {to:02x} 0000 | ff")), &start, &[]).unwrap();
+            let state =
+                evaluate(&bytes(&format!("06 {from:02x} | 08 {to:02x} 0000 | ff")), Layout::Wide, &start, &[]).unwrap();
             let mut expected = start.clone();
             expected.predicates[to] = true;
             assert_eq!(state, expected);
@@ -385,7 +387,7 @@ const UNDEFINED: &str =
 
 /// Runs the entries after those of [`UNDEFINED`]; the list has one word.
 fn run_undefined(entries: &str) -> Result<State, Refusal> {
-    evaluate(&bytes(&format!("{UNDEFINED} {entries} ff")), &State::default(), &[5])
+    evaluate(&bytes(&format!("{UNDEFINED} {entries} ff")), Layout::Wide, &State::default(), &[5])
 }
 
 #[test]
@@ -408,9 +410,9 @@ fn undefined_values_at_stores_and_opens() {
 fn a_result_with_an_undefined_operand_is_undefined() {
     use oracle::format::Value::{Address, Slot, Truth, Word};
     for kind in 20..=93u8 {
-        let Some(layout) = layout(kind) else { continue };
-        let store = if layout.result == Some(Word) { "07 00 0700" } else { "08 00 0700" };
-        let defined: Vec<u16> = layout
+        let Some(signature) = signature(kind) else { continue };
+        let store = if signature.result == Some(Word) { "07 00 0700" } else { "08 00 0700" };
+        let defined: Vec<u16> = signature
             .operands
             .iter()
             .map(|sort| match sort {
@@ -500,7 +502,7 @@ fn undefined_values_at_addresses_come_before_bad_ones() {
 fn constant(slot: u8, zero: u32, vec: u32, comp: u32, list: &[u32]) -> Result<u32, Refusal> {
     let operands = [zero, vec, comp].map(word).concat();
     let strip = format!("0a {slot:02x} | {operands} 0b 0000 0100 0200 0300 | 0c 0400 | 07 00 0500 | ff");
-    evaluate(&bytes(&strip), &State::default(), list).map(|state| state.registers[0])
+    evaluate(&bytes(&strip), Layout::Wide, &State::default(), list).map(|state| state.registers[0])
 }
 
 /// A list whose words tell their place.
@@ -562,8 +564,11 @@ fn addresses_out_of_range() {
 fn an_address_is_refused_without_a_load() {
     let strip = format!("0a 09 | {} {} 0b 0000 0200 0100 0200 | ff", word(1), word(0));
     let refusal = Err(Refusal::Constant { slot: 9, vec: 1, comp: 0 });
-    assert_eq!(evaluate(&bytes(&strip), &State::default(), &telling_list(9 * 16_384 + 4)), refusal);
-    assert_eq!(evaluate(&bytes(&strip), &State::default(), &telling_list(9 * 16_384 + 5)), Ok(State::default()));
+    assert_eq!(evaluate(&bytes(&strip), Layout::Wide, &State::default(), &telling_list(9 * 16_384 + 4)), refusal);
+    assert_eq!(
+        evaluate(&bytes(&strip), Layout::Wide, &State::default(), &telling_list(9 * 16_384 + 5)),
+        Ok(State::default())
+    );
     // A slot alone needs nothing.
     assert_eq!(run("0a 1f | ff"), Ok(State::default()));
 }
@@ -588,11 +593,11 @@ const COUNT: &str = "04 00 | 01 01000000 | 28 0000 0100 | 07 00 0200 | ff ";
 #[test]
 fn empty_runs_and_strips() {
     let state = random_state(&mut Rng::new(1));
-    assert_eq!(evaluate(&[], &state, &[]), Ok(state.clone()));
-    assert_eq!(evaluate(&[255], &state, &[]), Ok(state.clone()));
-    assert_eq!(evaluate(&[255; 100], &state, &[]), Ok(state.clone()));
+    assert_eq!(evaluate(&[], Layout::Wide, &state, &[]), Ok(state.clone()));
+    assert_eq!(evaluate(&[255], Layout::Wide, &state, &[]), Ok(state.clone()));
+    assert_eq!(evaluate(&[255; 100], Layout::Wide, &state, &[]), Ok(state.clone()));
     // Notes change nothing.
-    assert_eq!(evaluate(&bytes("6e 01 6e 02 6e 03 6e 04 6e 05 ff"), &state, &[]), Ok(state));
+    assert_eq!(evaluate(&bytes("6e 01 6e 02 6e 03 6e 04 6e 05 ff"), Layout::Wide, &state, &[]), Ok(state));
     let noted = "6e 01 | 04 00 | 6e 02 | 01 01000000 | 28 0000 0100 | 6e 03 | 07 00 0200 | 6e 04 | ff";
     assert_eq!(run(noted), run(COUNT));
 }
@@ -703,7 +708,7 @@ fn row(kind: u8, form: u8, word: u64, registers: [u32; 3]) -> (u32, [bool; 4]) {
     let strip = translate(&Record { kind, form, value: 0, word }.to_bytes(), &mut [0; SLOTS]).unwrap();
     let mut state = State { predicates: [true; 7], ..State::default() };
     state.registers[2..5].copy_from_slice(&registers);
-    let state = evaluate(&strip, &state, &[]).unwrap();
+    let state = evaluate(&strip, Layout::Wide, &state, &[]).unwrap();
     (state.registers[1], state.flags)
 }
 
@@ -940,8 +945,8 @@ fn slow_strip(strip: &[Entry], mut state: State, list: &[u32]) -> Result<State, 
 #[test]
 fn the_two_definitions_agree_on_operations() {
     let mut rng = Rng::new(11);
-    for kind in (20..=93u8).filter(|kind| layout(*kind).is_some() && !(80..=90).contains(kind)) {
-        let operands = layout(kind).unwrap().operands.len();
+    for kind in (20..=93u8).filter(|kind| signature(*kind).is_some() && !(80..=90).contains(kind)) {
+        let operands = signature(kind).unwrap().operands.len();
         let mut undefined = 0;
         for round in 0..4000 {
             let mut words: Vec<u32> = (0..operands).map(|_| corner_word(&mut rng)).collect();
@@ -1010,11 +1015,13 @@ fn the_two_definitions_agree_on_runs() {
     for round in 0..60_000 {
         let class = round % 3;
         let strips = random_strips(&mut rng, class);
-        let run: Vec<u8> = strips.iter().flat_map(|strip| encode(strip)).collect();
+        let [wide, narrow] =
+            Layout::ALL.map(|layout| strips.iter().flat_map(|strip| encode(strip, layout)).collect::<Vec<u8>>());
         let state = random_state(&mut rng);
-        let len = random_list_len(&mut rng, &run, &state, &words);
-        let found = evaluate(&run, &state, &words[..len]);
+        let len = random_list_len(&mut rng, &wide, Layout::Wide, &state, &words);
+        let found = evaluate(&wide, Layout::Wide, &state, &words[..len]);
         assert_eq!(found, slow_run(&strips, &state, &words[..len]), "{strips:?} {len}");
+        assert_eq!(found, evaluate(&narrow, Layout::Narrow, &state, &words[..len]), "{strips:?} {len}");
         answers[class][found.err().map_or(0, |refusal| refusal.number() as usize - 6)] += 1;
     }
     let [translated, made, any] = answers;
@@ -1035,7 +1042,7 @@ fn evaluation_strips_use_every_kind_and_both_ways_of_a_block() {
         most = most.max(strip.len());
         for entry in &strip {
             kinds[usize::from(entry.kind)] += 1;
-            if let Immediate::Byte(..) = layout(entry.kind).unwrap().immediate {
+            if let Immediate::Byte(..) = signature(entry.kind).unwrap().immediate {
                 cells.insert((entry.kind, entry.immediate));
             }
         }
@@ -1053,7 +1060,7 @@ fn evaluation_strips_use_every_kind_and_both_ways_of_a_block() {
     }
     for kind in 0..=255u8 {
         let times = kinds[usize::from(kind)];
-        assert!(if layout(kind).is_some() { times > 500 } else { times == 0 }, "kind {kind}: {times}");
+        assert!(if signature(kind).is_some() { times > 500 } else { times == 0 }, "kind {kind}: {times}");
     }
     assert_eq!(most, 64);
     assert!(ran > 1000 && skipped > 1000, "{ran} {skipped}");

@@ -1,6 +1,6 @@
 //! Many random records: no panic, every strip well-formed, the known maxima, refusals that touch nothing.
 
-use oracle::format::{encode, value_count};
+use oracle::format::{Layout, encode, value_count};
 use oracle::generate::{random_admitted, random_record};
 use oracle::record::{NAMES, Record};
 use oracle::rng::Rng;
@@ -19,8 +19,8 @@ fn strips_of_random_records_are_well_formed() {
         let mut marks = [0; SLOTS];
         match translate_entries(&record.to_bytes(), &mut marks) {
             Ok(entries) => {
-                let strip = encode(&entries);
-                assert!(shape_ok(&strip), "{record:?}");
+                let strip = encode(&entries, Layout::Wide);
+                assert!(shape_ok(&strip, Layout::Wide), "{record:?}");
                 entries_most = entries_most.max(entries.len());
                 values_most = values_most.max(value_count(&entries));
                 bytes_most = bytes_most.max(strip.len());
@@ -33,7 +33,7 @@ fn strips_of_random_records_are_well_formed() {
             }
         }
     }
-    assert!(shape_ok(&run));
+    assert!(shape_ok(&run, Layout::Wide));
     assert!(accepted[1..].iter().all(|&n| n > 1000), "{accepted:?}");
     assert!(refused[2..].iter().all(|&n| n > 100), "{refused:?}");
     assert!(entries_most <= 53 && values_most <= 45 && bytes_most <= 239, "{entries_most} {values_most} {bytes_most}");
@@ -45,7 +45,7 @@ fn the_longest_strip() {
     let word = 1 | 255 << 8 | 8 << 16 | 1 << 43 | 1 << 47 | 1 << 48 | 1 << 49 | 1 << 50;
     let record = Record { kind: 9, form: 1, value: 0, word };
     let entries = translate_entries(&record.to_bytes(), &mut [0; SLOTS]).unwrap();
-    assert_eq!((entries.len(), value_count(&entries), encode(&entries).len()), (53, 45, 239));
+    assert_eq!((entries.len(), value_count(&entries), encode(&entries, Layout::Wide).len()), (53, 45, 239));
 }
 
 #[test]

@@ -5,7 +5,7 @@
 
 use std::collections::BTreeSet;
 
-use oracle::format::{Entry, encode, kind};
+use oracle::format::{Entry, Layout, encode, kind};
 use oracle::generate::{random_admitted, with_field};
 use oracle::reach::{CELLS, CONSTANTS, FLAGS, PREDICATES, reach, reach_plain};
 use oracle::record::Record;
@@ -361,7 +361,7 @@ fn random_runs_by_the_second_definition() {
                 _ => translated_near(&mut rng),
             })
             .collect();
-        let run: Vec<u8> = strips.iter().flat_map(|strip| encode(strip)).collect();
+        let run: Vec<u8> = strips.iter().flat_map(|strip| encode(strip, Layout::Wide)).collect();
         let rare = rng.pick(&[1, 2, 8, 64, 512]);
         let raw: [u8; CELLS] = std::array::from_fn(|_| if rng.one_in(rare) { 1 + rng.below(255) as u8 } else { 0 });
         let asked: BTreeSet<Cell> = all.iter().zip(raw).filter(|(_, byte)| *byte != 0).map(|(cell, _)| *cell).collect();
@@ -382,14 +382,14 @@ fn random_damage_is_refused_or_answered() {
     let mut rng = Rng::new(12);
     let (mut refused, mut answered) = (0, 0);
     for _ in 0..20_000 {
-        let mut run = encode(&evaluation_strip(&mut rng));
+        let mut run = encode(&evaluation_strip(&mut rng), Layout::Wide);
         damage(&mut rng, &mut run);
         let raw: [u8; CELLS] = std::array::from_fn(|_| rng.next_u64() as u8);
         let mut cells = raw;
         match both(&run, &mut cells) {
             Ok(()) => {
                 answered += 1;
-                assert!(oracle::shape::shape_ok(&run));
+                assert!(oracle::shape::shape_ok(&run, Layout::Wide));
                 assert!(cells.iter().all(|&byte| byte <= 1));
             }
             Err(number) => {

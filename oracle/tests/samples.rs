@@ -2,6 +2,7 @@
 //! `samples/README.md` says of them.
 
 use oracle::evaluate::{Refusal, State, evaluate};
+use oracle::format::Layout;
 use oracle::print::print;
 use oracle::record::Record;
 use oracle::{SLOTS, translate};
@@ -110,7 +111,7 @@ fn the_count_passes_32_bits_on_the_right_step() {
             state.registers[0] = start as u32;
             state.registers[1] = (start >> 32) as u32;
             for step in 1..=4 {
-                state = evaluate(&run, &state, &[]).expect("no constant is read");
+                state = evaluate(&run, Layout::Wide, &state, &[]).expect("no constant is read");
                 let high = u64::from(state.registers[1]);
                 let low = u64::from(state.registers[0]);
                 assert_eq!(high << 32 | low, start.wrapping_add(step), "{start:x} step {step}");
@@ -141,7 +142,7 @@ fn the_number_beside_the_conditions_survives() {
                 state.registers[0] = a;
                 state.registers[1] = b;
                 state.registers[2] = 0xabcd_00ef | number << 12 | before << 8;
-                let state = evaluate(&run, &state, &[]).expect("no constant is read");
+                let state = evaluate(&run, Layout::Wide, &state, &[]).expect("no constant is read");
                 assert_eq!(state.registers[2], 0xabcd_00ef | number << 12 | flags << 8, "{a:x} + {b:x}");
                 assert_eq!(state.registers[0], a.wrapping_add(b));
             }
@@ -156,7 +157,8 @@ fn the_first_constant_that_is_not_lent_is_named() {
     let mut words = vec![0; first + 2];
     words[first] = 40;
     words[first + 1] = 2;
-    let evaluated = |len: usize| evaluate(&run, &State::default(), &words[..len]).map(|state| state.registers[0]);
+    let evaluated =
+        |len: usize| evaluate(&run, Layout::Wide, &State::default(), &words[..len]).map(|state| state.registers[0]);
     assert_eq!(evaluated(0), Err(Refusal::Constant { slot: 3, vec: 17, comp: 2 }));
     assert_eq!(evaluated(first), Err(Refusal::Constant { slot: 3, vec: 17, comp: 2 }));
     assert_eq!(evaluated(first + 1), Err(Refusal::Constant { slot: 3, vec: 17, comp: 3 }));

@@ -1,11 +1,11 @@
 //! The shape test, cause by cause and on both sides of each limit, and against a second, slower definition.
 
-use oracle::format::{Immediate, Value, encode, kind, layout};
+use oracle::format::{Immediate, Layout, Value, encode, kind, signature};
 use oracle::generate::random_admitted;
 use oracle::rng::Rng;
 use oracle::shape::shape_ok;
 use oracle::strips::{damage, near_miss, random_bytes, random_strip};
-use oracle::{SLOTS, translate};
+use oracle::{SLOTS, translate_entries};
 
 fn bytes(hex: &str) -> Vec<u8> {
     let digits: Vec<u8> = hex.chars().filter_map(|c| c.to_digit(16)).map(|d| d as u8).collect();
@@ -15,14 +15,20 @@ fn bytes(hex: &str) -> Vec<u8> {
 
 #[track_caller]
 fn good(hex: &str) {
-    assert!(shape_ok(&bytes(hex)), "{hex}");
-    assert!(by_causes(&bytes(hex)), "{hex}");
+    assert!(well_formed(&bytes(hex), Layout::Wide), "{hex}");
 }
 
 #[track_caller]
 fn bad(hex: &str) {
-    assert!(!shape_ok(&bytes(hex)), "{hex}");
-    assert!(!by_causes(&bytes(hex)), "{hex}");
+    assert!(!well_formed(&bytes(hex), Layout::Wide), "{hex}");
+}
+
+/// The verdict, by both definitions.
+#[track_caller]
+fn well_formed(run: &[u8], layout: Layout) -> bool {
+    let verdict = shape_ok(run, layout);
+    assert_eq!(verdict, by_causes(run, layout), "{layout:?} {run:02x?}");
+    verdict
 }
 
 #[test]
@@ -39,7 +45,7 @@ fn runs() {
 
 #[test]
 fn unknown_kinds() {
-    let known: Vec<u8> = (0..=255).filter(|&k| layout(k).is_some()).collect();
+    let known: Vec<u8> = (0..=255).filter(|&k| signature(k).is_some()).collect();
     let mut expected: Vec<u8> =
         (1..=12).chain(20..=27).chain(40..=52).chain(60..=69).chain(80..=83).chain(90..=93).collect();
     expected.extend([100, 101, 110, 255]);
@@ -53,7 +59,7 @@ fn unknown_kinds() {
                 strip.push(kind);
                 strip.extend(tail);
                 strip.push(255);
-                assert!(!shape_ok(&strip), "{kind}");
+                assert!(!shape_ok(&strip, Layout::Wide), "{kind}");
             }
         }
     }
@@ -86,7 +92,7 @@ fn cut_bodies() {
         let whole = bytes(whole);
         // Nothing in front of an end is a strip, and neither is any shorter piece.
         for len in 1..=whole.len() {
-            assert!(!shape_ok(&whole[..len]), "{:02x?}", &whole[..len]);
+            assert!(!shape_ok(&whole[..len], Layout::Wide), "{:02x?}", &whole[..len]);
         }
     }
     bad("02 64");
@@ -144,16 +150,16 @@ const NUMBER_OF: [(Value, u16); 4] = [(Value::Word, 0), (Value::Truth, 1), (Valu
 #[test]
 fn references_of_every_kind() {
     for kind in 0..=255u8 {
-        let Some(layout) = layout(kind) else { continue };
-        if layout.operands.is_empty() {
+        let Some(signature) = signature(kind) else { continue };
+        if signature.operands.is_empty() {
             continue;
         }
         let right: Vec<u16> =
-            layout.operands.iter().map(|wanted| NUMBER_OF.iter().find(|n| n.0 == *wanted).unwrap().1).collect();
+            signature.operands.iter().map(|wanted| NUMBER_OF.iter().find(|n| n.0 == *wanted).unwrap().1).collect();
         let strip = |refs: &[u16]| {
             let mut strip = bytes(ONE_OF_EACH);
             strip.push(kind);
-            if layout.immediate != Immediate::None {
+            if signature.immediate != Immediate::None {
                 strip.push(0);
             }
             strip.extend(refs.iter().flat_map(|r| r.to_le_bytes()));
@@ -163,7 +169,7 @@ fn references_of_every_kind() {
             strip.push(kind::END);
             strip
         };
-        assert!(shape_ok(&strip(&right)), "kind {kind}");
+        assert!(shape_ok(&strip(&right), Layout::Wide), "kind {kind}");
         for place in 0..right.len() {
             // Each other value, the entry's own number, and numbers far beyond.
             for wrong in
@@ -172,7 +178,7 @@ fn references_of_every_kind() {
                 if wrong != right[place] {
                     let mut refs = right.clone();
                     refs[place] = wrong;
-                    assert!(!shape_ok(&strip(&refs)), "kind {kind}, reference {place} to {wrong}");
+                    assert!(!shape_ok(&strip(&refs), Layout::Wide), "kind {kind}, reference {place} to {wrong}");
                 }
             }
         }
@@ -182,14 +188,14 @@ fn references_of_every_kind() {
 #[test]
 fn results_of_every_kind() {
     for kind in 0..=255u8 {
-        let Some(layout) = layout(kind) else { continue };
+        let Some(signature) = signature(kind) else { continue };
         if kind == kind::END || kind == kind::CLOSE {
             continue;
         }
-        let refs = layout.operands.iter().map(|wanted| NUMBER_OF.iter().find(|n| n.0 == *wanted).unwrap().1);
+        let refs = signature.operands.iter().map(|wanted| NUMBER_OF.iter().find(|n| n.0 == *wanted).unwrap().1);
         let mut strip = bytes(ONE_OF_EACH);
         strip.push(kind);
-        match layout.immediate {
+        match signature.immediate {
             Immediate::None => {}
             Immediate::Word => strip.extend([0; 4]),
             Immediate::Byte(least, _) => strip.push(least),
@@ -206,7 +212,7 @@ fn results_of_every_kind() {
             let mut strip = strip.clone();
             strip.extend(bytes(using));
             strip.extend(if kind == kind::OPEN { &[kind::CLOSE, kind::END][..] } else { &[kind::END] });
-            assert_eq!(shape_ok(&strip), layout.result == Some(sort), "kind {kind} as {sort:?}");
+            assert_eq!(shape_ok(&strip, Layout::Wide), signature.result == Some(sort), "kind {kind} as {sort:?}");
         }
     }
 }
@@ -247,7 +253,7 @@ fn a_bad_last_strip_refuses_the_run() {
     good(&format!("{} 04 fe ff", "02 ff".repeat(1000)));
 }
 
-// A second definition: the run is cut into entries by the layout table alone, then each cause is asked for by itself.
+// A second definition: the run is cut into entries by their signatures alone, then each cause is asked for by itself.
 
 struct Parsed {
     kind: u8,
@@ -256,33 +262,38 @@ struct Parsed {
 }
 
 /// The entry at the start of `rest`, or `None` for an unknown kind or a cut body.
-fn parse<'a>(rest: &mut &'a [u8]) -> Option<Parsed> {
+fn parse<'a>(rest: &mut &'a [u8], layout: Layout) -> Option<Parsed> {
     let mut take = |n: usize| -> Option<&'a [u8]> {
         let (head, tail) = rest.split_at_checked(n)?;
         *rest = tail;
         Some(head)
     };
     let kind = take(1)?[0];
-    let layout = layout(kind)?;
-    let byte = match layout.immediate {
+    let signature = signature(kind)?;
+    let byte = match signature.immediate {
         Immediate::None => None,
         Immediate::Word => take(4).map(|_| None)?,
         Immediate::Byte(..) => Some(take(1)?[0]),
     };
     let mut refs = Vec::new();
-    for _ in layout.operands {
-        let pair = take(2)?;
-        refs.push(usize::from(pair[0]) + 256 * usize::from(pair[1]));
+    for _ in signature.operands {
+        refs.push(match layout {
+            Layout::Wide => {
+                let pair = take(2)?;
+                usize::from(pair[0]) + 256 * usize::from(pair[1])
+            }
+            Layout::Narrow => take(1)?[0].into(),
+        });
     }
     Some(Parsed { kind, byte, refs })
 }
 
-fn by_causes(run: &[u8]) -> bool {
+fn by_causes(run: &[u8], layout: Layout) -> bool {
     let mut rest = run;
     while !rest.is_empty() {
         let mut strip = Vec::new();
         while strip.last().is_none_or(|e: &Parsed| e.kind != kind::END) {
-            match parse(&mut rest) {
+            match parse(&mut rest, layout) {
                 Some(entry) if strip.len() < 64 => strip.push(entry),
                 _ => return false,
             }
@@ -308,12 +319,12 @@ fn immediates_fit(strip: &[Parsed]) -> bool {
 fn references_fit(strip: &[Parsed]) -> bool {
     let mut values: Vec<Value> = Vec::new();
     for entry in strip {
-        let layout = layout(entry.kind).unwrap();
-        let fit = entry.refs.iter().zip(layout.operands).all(|(r, wanted)| values.get(*r) == Some(wanted));
+        let signature = signature(entry.kind).unwrap();
+        let fit = entry.refs.iter().zip(signature.operands).all(|(r, wanted)| values.get(*r) == Some(wanted));
         if !fit {
             return false;
         }
-        values.extend(layout.result);
+        values.extend(signature.result);
     }
     true
 }
@@ -330,36 +341,37 @@ fn block_fits(strip: &[Parsed]) -> bool {
 #[test]
 fn the_two_definitions_agree() {
     let mut rng = Rng::new(3);
-    let mut verdicts = [[0u32; 2]; 6];
-    let mut compare = |class: usize, run: &[u8]| {
-        let verdict = shape_ok(run);
-        assert_eq!(verdict, by_causes(run), "{run:02x?}");
-        verdicts[class][usize::from(verdict)] += 1;
-    };
-    for _ in 0..40_000 {
-        let entries = random_strip(&mut rng);
-        let mut strip = encode(&entries);
-        compare(0, &strip);
-        compare(1, &near_miss(&mut rng, entries));
-        damage(&mut rng, &mut strip);
-        compare(2, &strip);
-        let mut translated = translate(&random_admitted(&mut rng).to_bytes(), &mut [0; SLOTS]).unwrap();
-        compare(3, &translated);
-        damage(&mut rng, &mut translated);
-        compare(4, &translated);
-        compare(5, &random_bytes(&mut rng));
-    }
-    for (class, [refused, accepted]) in verdicts.iter().enumerate() {
-        if matches!(class, 0 | 3) {
-            assert_eq!(*refused, 0, "class {class}");
-        } else {
-            assert!(*refused > 100 && *accepted > 100, "class {class}: {refused} refused, {accepted} accepted");
+    for layout in Layout::ALL {
+        let mut verdicts = [[0u32; 2]; 7];
+        let mut compare = |class: usize, run: &[u8]| verdicts[class][usize::from(well_formed(run, layout))] += 1;
+        for _ in 0..40_000 {
+            let entries = random_strip(&mut rng);
+            let mut strip = encode(&entries, layout);
+            compare(0, &strip);
+            compare(1, &near_miss(&mut rng, entries, layout));
+            damage(&mut rng, &mut strip);
+            compare(2, &strip);
+            let entries = translate_entries(&random_admitted(&mut rng).to_bytes(), &mut [0; SLOTS]).unwrap();
+            let mut translated = encode(&entries, layout);
+            compare(3, &translated);
+            damage(&mut rng, &mut translated);
+            compare(4, &translated);
+            compare(5, &random_bytes(&mut rng));
+            // The bytes of the other layout.
+            compare(6, &encode(&entries, layout.other()));
         }
-    }
-    for a in 0..=255 {
-        assert_eq!(shape_ok(&[a]), by_causes(&[a]));
-        for b in 0..=255 {
-            assert_eq!(shape_ok(&[a, b]), by_causes(&[a, b]));
+        for (class, [refused, accepted]) in verdicts.iter().enumerate() {
+            if matches!(class, 0 | 3) {
+                assert_eq!(*refused, 0, "class {class}");
+            } else {
+                assert!(*refused > 100 && *accepted > 100, "class {class}: {refused} refused, {accepted} accepted");
+            }
+        }
+        for a in 0..=255 {
+            well_formed(&[a], layout);
+            for b in 0..=255 {
+                well_formed(&[a, b], layout);
+            }
         }
     }
 }
@@ -379,7 +391,7 @@ fn random_strips_use_every_kind_and_reach_the_limits() {
         }
     }
     for kind in 0..=255 {
-        assert_eq!(kinds[usize::from(kind)], layout(kind).is_some(), "kind {kind}");
+        assert_eq!(kinds[usize::from(kind)], signature(kind).is_some(), "kind {kind}");
     }
     assert_eq!(most, 64);
     for limit in [(4, 254), (5, 6), (6, 3), (7, 254), (8, 6), (9, 3), (10, 31), (110, 1), (110, 5)] {

@@ -77,33 +77,33 @@ module _ (cs : List ℕ) where
   stored-all-fit : (s : State) (r : Evaluated) → Fit r → Fit (restored s r)
   stored-all-fit s r h = cond-all Fit (isDone (r .outcome)) _ _ h h
 
-  -- ---- for every run, state and lent list
-  module _ (run : List ℕ) (s : State) where
+  -- ---- for every layout, run, state and lent list
+  module _ (len : ℕ) (run : List ℕ) (s : State) where
     -- a well-formed run is never answered 7
-    pub well-formed-not-7 : shapeOk run ≡ true → evaluation run s cs .number ≡ 7 → ⊥
+    pub well-formed-not-7 : shapeOk len run ≡ true → evaluation len run s cs .number ≡ 7 → ⊥
     unfolding evaluated
     well-formed-not-7 ok is =
-        let fit : Fit (evaluated run s cs) = rw ok (stored-all-fit s _ (strips-fit s (Option·getD (decode run) []))) in
+        let fit : Fit (evaluated len run s cs) = rw ok (stored-all-fit s _ (strips-fit s (Option·getD (decode len run) []))) in
         false≢true (sym fit ∙ ap (λ (n : ℕ). eqb n 7) is)
 
-    pub well-formed-passes : shapeOk run ≡ true → evaluated run s cs .outcome ≡ Refused BadShape → ⊥
+    pub well-formed-passes : shapeOk len run ≡ true → evaluated len run s cs .outcome ≡ Refused BadShape → ⊥
     unfolding told refusalTold
     well-formed-passes ok is = well-formed-not-7 ok (ap (λ (o : Outcome). told o .number) is)
 
     -- any other always is, with the starting state
-    pub bad-shape-7 : shapeOk run ≡ false → evaluation run s cs ≡ returns 7 [] s
+    pub bad-shape-7 : shapeOk len run ≡ false → evaluation len run s cs ≡ returns 7 [] s
     unfolding evaluated told refusalTold
     bad-shape-7 bad = rw bad
 
     -- 9 carries three numbers, every other answer none
-    pub nine-carries-three : length (evaluation run s cs .carried) ≡ cond (eqb (evaluation run s cs .number) 9) 3 0
-    nine-carries-three = carries (evaluated run s cs .outcome)
+    pub nine-carries-three : length (evaluation len run s cs .carried) ≡ cond (eqb (evaluation len run s cs .number) 9) 3 0
+    nine-carries-three = carries (evaluated len run s cs .outcome)
 
     -- a refusal, whichever it is, returns the starting state
-    pub refused-keeps-start : isDone (evaluated run s cs .outcome) ≡ false → evaluated run s cs .state ≡ s
+    pub refused-keeps-start : isDone (evaluated len run s cs .outcome) ≡ false → evaluated len run s cs .state ≡ s
     unfolding evaluated
     refused-keeps-start =
-        cond-all Start (shapeOk run) _ _ (restored-start (stripsFrom cs s (Option·getD (decode run) []))) (λ h. refl)
+        cond-all Start (shapeOk len run) _ _ (restored-start (stripsFrom cs s (Option·getD (decode len run) []))) (λ h. refl)
       where
         Start : Evaluated → Type 0
         Start r = isDone (r .outcome) ≡ false → r .state ≡ s

@@ -10,6 +10,7 @@ use evaluation::Outcome;
 use evaluation::Refusal;
 use evaluation::State;
 use libc::STDOUT_FILENO;
+use strip::Layout;
 
 // Element i becomes i * step, without what lies above bit 31.
 fn fill(words: &mut [u32], step: u32) {
@@ -122,7 +123,7 @@ fn changes(before: State, after: State) {
 // The number and the cells of a run.
 fn answer(run: &[u8], constants: &[u32]) {
     let before = start();
-    let r = evaluation::evaluate(run, before, constants);
+    let r = evaluation::evaluate(run, Layout::Wide, before, constants);
     let o = r.outcome;
     let after = r.state;
     io::print_decimal(STDOUT_FILENO, number_of(o));

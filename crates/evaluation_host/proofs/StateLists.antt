@@ -7,6 +7,10 @@ use native.Mathlib.Omega.{arith}
 use lib.ListN.{length}
 use lib.Dec.{eqb}
 use lib.Seq.{sets}
+use Rattle.strip.specs.declared.format.Layout.{Layout}
+use Rattle.strip.specs.declared.format.Numbered.{Numbered}
+use Rattle.strip.specs.declared.format.Numbered.the-variants.{Known, Unknown}
+use Rattle.strip.specs.Entry.{refLength}
 use Rattle.evaluation.specs.declared.state.State.{State}
 use Rattle.evaluation.specs.declared.machine.Evaluated.{Evaluated}
 use Rattle.evaluation.specs.declared.machine.Outcome.the-variants.{Done, Refused}
@@ -15,7 +19,7 @@ use Rattle.evaluation.specs.declared.machine.Refusal.the-variants.{BadShape, Un
 use Rattle.evaluation.specs.Machine.{refusalTold, told, Answer, answerOf, evaluation}
 use borrow.Author.Tests.{eq-eqb, ne-eqb}
 use Rattle.truth_bytes.specs.Truths.{truthByte, truthsAt}
-use Rattle.evaluation_host.specs.States.{stateIn, truthBytes, returns, handedBack, evaluateAnswer}
+use Rattle.evaluation_host.specs.States.{stateIn, truthBytes, returns, handedBack, evaluateIn, evaluateAnswer}
 use Rattle.truth_bytes.proofs.Front.{appended, whole}
 
 -- ---- a state in two lists
@@ -31,18 +35,22 @@ truths-written {ts₁} s ts p f h e₁ e₂ =
     whole (s .preds ++ s .flags) 11 (appended ts₁ (s .preds) (s .flags) 7 4 11 f (omega arith) (appended ts [] (s .preds) 0 7 11 p (omega arith) (refl, h) e₁) e₂)
 
 -- ---- the answer
-module _ (run rs ts cs fault : List ℕ) where
-  pub wrong-registers : (length rs ≡ 255 → ⊥) → returns 7 rs ts fault ≡ evaluateAnswer run rs ts cs fault
+module _ (layout : Numbered) (run rs ts cs fault : List ℕ) where
+  pub wrong-registers : (length rs ≡ 255 → ⊥) → returns 7 rs ts fault ≡ evaluateAnswer layout run rs ts cs fault
   unfolding evaluateAnswer
   wrong-registers h = rw (ne-eqb (length rs) 255 h)
 
-  pub wrong-truths : length rs ≡ 255 → (length ts ≡ 11 → ⊥) → returns 7 rs ts fault ≡ evaluateAnswer run rs ts cs fault
+  pub wrong-truths : length rs ≡ 255 → (length ts ≡ 11 → ⊥) → returns 7 rs ts fault ≡ evaluateAnswer layout run rs ts cs fault
   unfolding evaluateAnswer
   wrong-truths e h = rw (eq-eqb (length rs) 255 e, ne-eqb (length ts) 11 h)
 
-  pub ran : {s : State} {a : Answer} → length rs ≡ 255 → length ts ≡ 11 → s ≡ stateIn rs ts → a ≡ evaluation run s cs → handedBack a rs ts fault ≡ evaluateAnswer run rs ts cs fault
-  unfolding evaluateAnswer
-  ran e h p q = rw (eq-eqb (length rs) 255 e, eq-eqb (length ts) 11 h, ← p, ← q)
+  pub no-layout : length rs ≡ 255 → length ts ≡ 11 → layout ≡ Unknown → returns 7 rs ts fault ≡ evaluateAnswer layout run rs ts cs fault
+  unfolding evaluateAnswer evaluateIn
+  no-layout e h u = rw (eq-eqb (length rs) 255 e, eq-eqb (length ts) 11 h, u)
+
+  pub ran : {s : State} {a : Answer} (l : Layout) → length rs ≡ 255 → length ts ≡ 11 → layout ≡ Known l → s ≡ stateIn rs ts → a ≡ evaluation (refLength l) run s cs → handedBack a rs ts fault ≡ evaluateAnswer layout run rs ts cs fault
+  unfolding evaluateAnswer evaluateIn
+  ran l e h k p q = rw (eq-eqb (length rs) 255 e, eq-eqb (length ts) 11 h, k, ← p, ← q)
 
 module _ (r : Evaluated) (rs ts fault : List ℕ) where
   pub done : {rs' ts' : List ℕ} → r .outcome ≡ Done → rs' ≡ r .state .regs → ts' ≡ truthBytes (r .state) → returns 0 rs' ts' fault ≡ handedBack (answerOf r) rs ts fault

@@ -4,6 +4,9 @@ use mathlib.Core.Bool.{cond, _&&_}
 use mathlib.Core.List.{List, _++_, map}
 use lib.ListN.{length}
 use lib.Dec.{eqb}
+use Rattle.strip.specs.declared.format.Numbered.{Numbered}
+use Rattle.strip.specs.declared.format.Numbered.the-variants.{Known, Unknown}
+use Rattle.strip.specs.Entry.{refLength}
 use Rattle.evaluation.specs.declared.state.State.{State}
 use Rattle.evaluation.specs.Machine.{evaluation}
 use Rattle.evaluation.specs.Machine as Evaluation
@@ -33,7 +36,11 @@ handedBack a rs ts fault =
     cond (eqb (a .number) 0) (returns (a .number) (a .state .regs) (truthBytes (a .state)) fault)
     (returns (a .number) rs ts (cond (eqb (a .number) 9) (a .carried) fault))
 
+-- a number that names no layout: no run is well-formed
+unfoldable pub evaluateIn : Numbered → List ℕ → List ℕ → List ℕ → List ℕ → List ℕ → Answer
+evaluateIn (Known l) run rs ts constants fault = handedBack (evaluation (refLength l) run (stateIn rs ts) constants) rs ts fault
+evaluateIn Unknown run rs ts constants fault = returns 7 rs ts fault
+
 -- lists of another length hold no state
-unfoldable pub evaluateAnswer : List ℕ → List ℕ → List ℕ → List ℕ → List ℕ → Answer
-evaluateAnswer run rs ts constants fault =
-    cond (eqb (length rs) 255 && eqb (length ts) 11) (handedBack (evaluation run (stateIn rs ts) constants) rs ts fault) (returns 7 rs ts fault)
+unfoldable pub evaluateAnswer : Numbered → List ℕ → List ℕ → List ℕ → List ℕ → List ℕ → Answer
+evaluateAnswer layout run rs ts constants fault = cond (eqb (length rs) 255 && eqb (length ts) 11) (evaluateIn layout run rs ts constants fault) (returns 7 rs ts fault)

@@ -2,10 +2,12 @@
 ghost use mathlib.Core.Path.{_≡_};
 ghost use mathlib.Core.List.{_∷_, []};
 ghost use lib.ListN.{length};
+ghost use Rattle.strip.specs.Entry.{layoutNumbered};
 ghost use Rattle.evaluation_host.specs.States.{stateIn, truthBytes, returns, evaluateAnswer};
 use evaluation::Outcome;
 use evaluation::Refusal;
 use evaluation::State;
+use strip::Numbered;
 use truth_bytes::read_truths;
 use truth_bytes::write_truths;
 
@@ -52,12 +54,13 @@ fn state_out(state: State, registers: &mut [u32], truths: &mut [u8])
     write_truths(&flags, truths, 7);
 }
 
-// A run from a state, in place: 255 registers, and 11 bytes for the 7 predicates and the flags Z, S, C, O (nonzero is true, answered as 1).
-// 0 where the run was evaluated; 7, 8 or 9 where it was refused, and 7 for a wrong length; a refusal leaves registers and truths as they were.
+// A run in the layout of this number, from a state, in place: 255 registers, and 11 bytes for the 7 predicates and the flags Z, S, C, O (nonzero is true, answered as 1).
+// 0 where the run was evaluated; 7, 8 or 9 where it was refused, and 7 for a wrong length or no layout; a refusal leaves registers and truths as they were.
 // Slot, vec and comp are written with 9 alone: what the address asked for. One match tells the cases: a second one costs a copy of the state.
 #[no_mangle]
 pub extern "C" fn mehkura_evaluate(
     run: &[u8],
+    layout: u32,
     registers: &mut [u32],
     truths: &mut [u8],
     constants: &[u32],
@@ -65,7 +68,7 @@ pub extern "C" fn mehkura_evaluate(
     vec: &mut u32,
     comp: &mut u32,
 ) -> u32
-    ensures { λ r. ⌜ returns r (now (registers .exit)) (now (truths .exit)) (now (slot .exit) ∷ now (vec .exit) ∷ now (comp .exit) ∷ []) ≡ evaluateAnswer (now (run .entry)) (now (registers .entry)) (now (truths .entry)) (now (constants .entry)) (now (slot .entry) ∷ now (vec .entry) ∷ now (comp .entry) ∷ []) ⌝ }
+    ensures { λ r. ⌜ returns r (now (registers .exit)) (now (truths .exit)) (now (slot .exit) ∷ now (vec .exit) ∷ now (comp .exit) ∷ []) ≡ evaluateAnswer (layoutNumbered layout) (now (run .entry)) (now (registers .entry)) (now (truths .entry)) (now (constants .entry)) (now (slot .entry) ∷ now (vec .entry) ∷ now (comp .entry) ∷ []) ⌝ }
 {
     if registers.len() != 255 {
         return 7;
@@ -73,7 +76,10 @@ pub extern "C" fn mehkura_evaluate(
     if truths.len() != 11 {
         return 7;
     }
-    let r = evaluation::evaluate(run, state_in(registers, truths), constants);
+    let Numbered::Known(l) = strip::layout_numbered(layout) else {
+        return 7;
+    };
+    let r = evaluation::evaluate(run, l, state_in(registers, truths), constants);
     let o = r.outcome;
     let state = r.state;
     match o {

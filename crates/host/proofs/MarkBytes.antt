@@ -7,7 +7,7 @@ use native.Mathlib.Numerals.{towards-suc}
 use lib.ListN.{length, take, drop, getD, set}
 use lib.Seq.{take-all, take-suc, take-suc-set, sets}
 use borrow.Author.Tests.{eq-eqb, ne-eqb}
-use Rattle.strip.specs.Entry.{wordAt, wordBytes, readEntry, readAs, encode, kindOf, immediateOf, refsOf, short}
+use Rattle.strip.specs.Entry.{wide, wordAt, wordBytes, readEntry, readAs, encode, kindOf, immediateOf, refsOf, short}
 use Rattle.strip.specs.declared.reader.Entry.the-variants as Entry
 use Rattle.strip.specs.Format.{formatOf}
 use Rattle.strip.proofs.Encode.{Bytes, read-is}
@@ -75,9 +75,9 @@ module _ (r : Translated) (out : List ℕ) (written : ℕ) (marks : List ℕ) wh
 -- ---- what is read and written back is what stood there
 
 -- four bytes and their word
-four : (x y z w : ℕ) → x < 256 → y < 256 → z < 256 → w < 256 → wordBytes ((x + y * 256) + (z + w * 256) * 65536) ≡ x ∷ y ∷ z ∷ w ∷ []
+four : (x y z w : ℕ) → x < 256 → y < 256 → z < 256 → w < 256 → wordBytes (wordAt (1 ∷ x ∷ y ∷ z ∷ w ∷ []) 1) ≡ x ∷ y ∷ z ∷ w ∷ []
 unfolding readEntry readAs encode kindOf immediateOf refsOf short formatOf
-four x y z w hx hy hz hw = ap tail (read-is s small (Entry.Word (wordAt s 1)) 5 refl .bytes)
+four x y z w hx hy hz hw = ap tail (read-is wide s small (Entry.Word (wordAt s 1)) 5 refl .bytes)
   where
     s : List ℕ
     s = 1 ∷ x ∷ y ∷ z ∷ w ∷ []

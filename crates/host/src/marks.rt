@@ -3,7 +3,7 @@ ghost use mathlib.Core.Path.{_≡_};
 ghost use Prim.Native.Nat.{_+_, _≤_, _<_};
 ghost use lib.ListN.{length};
 ghost use lib.Seq.{sets};
-ghost use Rattle.strip.specs.Entry.{refAt, wordAt, wordBytes};
+ghost use Rattle.strip.specs.Entry.{numberAt, wordAt, wordBytes};
 ghost use Rattle.host.specs.Marks.{wordsIn, markBytes, returns, translateAnswer};
 use translation::Outcome;
 
@@ -16,7 +16,7 @@ fn wide(b: u8) -> u32
 // Two bytes, little-endian.
 fn half_at(bytes: &[u8], at: usize) -> u32
     requires { ⌜ at + 2 ≤ length (now bytes) ⌝ }
-    ensures { λ r. ⌜ (r ≡ refAt (now (bytes .entry)) at) × (r < 65536) ⌝ }
+    ensures { λ r. ⌜ (r ≡ numberAt 2 (now (bytes .entry)) at) × (r < 65536) ⌝ }
 {
     wide(bytes[at]) + wide(bytes[at + 1]) * 256
 }

@@ -6,8 +6,8 @@ use Prim.Native.Nat.{ℕ, _+_, _≤_}
 use native.Mathlib.Omega.{arith}
 use lib.ListN.{length, getD, take, drop, length-append, length-drop, take-append-drop}
 use lib.Seq.{take-at, length-take-le, drop-drop, drop-append-add}
+use Rattle.strip.specs.Entry.{wide, Each}
 use Rattle.strip.specs.Shape.{shapeOk}
-use Rattle.strip.proofs.Run.{Each}
 use Rattle.evaluation.specs.declared.state.State.{State}
 use Rattle.evaluation.specs.State.{loaded}
 use Rattle.evaluation.specs.Machine.{evaluated}
@@ -150,12 +150,12 @@ module _ (room : List ℕ) (gs : List RecordAndMarks) where
     pub strips : run ≡ runOf records
     pub stands : filledRoom .bytes ≡ runOf records ++ drop (filledRoom .used) room
     -- that run passes the shape test
-    pub shape : shapeOk run ≡ true
+    pub shape : shapeOk wide run ≡ true
     -- starts that agree on the reach list, both accepted, agree at the end on the asked cells
     pub isolated : (asked : Cells) → length (asked .slots) ≡ 32 → (s t : State) (cs ds : List ℕ) → Starts run (reached run asked .cells) s cs t ds
-        → Agree asked (evaluated run s cs .state) cs (evaluated run t ds .state) ds
+        → Agree asked (evaluated wide run s cs .state) cs (evaluated wide run t ds .state) ds
     -- every evaluation, refused or not, leaves each cell that no strip stores as it was
-    pub unchanged : (s : State) (cs : List ℕ) (k n : ℕ) → 4 ≤ k → k ≤ 6 → storedIn run k n ≡ false → loaded (evaluated run s cs .state) k n ≡ loaded s k n
+    pub unchanged : (s : State) (cs : List ℕ) (k n : ℕ) → 4 ≤ k → k ≤ 6 → storedIn run k n ≡ false → loaded (evaluated wide run s cs .state) k n ≡ loaded s k n
 
 pub demand3 : (room : List ℕ) (gs : List RecordAndMarks) → Demand3 room gs
 demand3 room gs =

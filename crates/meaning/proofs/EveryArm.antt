@@ -7,8 +7,8 @@ use Prim.Native.Nat.{ℕ}
 use native.Mathlib.Omega.{arith}
 use lib.Dec.{T, eqb, leb}
 use borrow.Author.Tests.{leb-true, eqb-true}
+use Rattle.strip.specs.Entry.{Each}
 use Rattle.strip.proofs.Tests.{T-true, and-right, among, every, below}
-use Rattle.strip.proofs.Run.{Each}
 use Rattle.evaluation.specs.declared.state.State.{State}
 use Rattle.translation.specs.Insn as T
 use Rattle.meaning.specs.Record.{Record}

@@ -11,6 +11,7 @@ use denote.Array.{each}
 use denote.Shadow.{shadow}
 use denote.Struct.Field.{u32-field}
 use borrow.Author.Tests.{le-leb}
+use Rattle.strip.specs.Entry.{wide}
 use Rattle.evaluation.specs.declared.state.State.{State}
 use Rattle.evaluation.specs.Machine.{Answer, refusalTold, told, returns, ends, answerOf as evaluationAnswer, evaluation}
 use Rattle.evaluation.specs.declared.machine.Evaluated.{Evaluated}
@@ -86,7 +87,7 @@ module _ (l : List ℕ) (s : State) (ks : List ℕ) where
   refused-with ByteThree e = rw (← e) refl
   refused-with NoRoom e = rw (← e) refl
 
-  evaluated-with : Proper ks s → admits l ≡ true → 0 ≡ refusal l → evaluation (stripAt l) s ks ≡ interpretation l s ks
+  evaluated-with : Proper ks s → admits l ≡ true → 0 ≡ refusal l → evaluation wide (stripAt l) s ks ≡ interpretation l s ks
   unfolding interpretation recordAnswer namedWord told refusalTold
   evaluated-with w h e = rw (← e, record-means ks l s w h) (go (unlent ks (recordOf l) s))
     where
@@ -97,8 +98,8 @@ module _ (l : List ℕ) (s : State) (ks : List ℕ) where
       go false = refl
 
 -- what the code learns of an evaluation
-pub evaluated-told : (e : Evaluated) (o : EvaluationOutcome) (run : List ℕ) (s : State) (ks : List ℕ) → e .outcome ≡ o → evaluationAnswer e ≡ evaluation run s ks
-    → returns (told o .number) (told o .carried) (e .state) ≡ evaluation run s ks
+pub evaluated-told : (e : Evaluated) (o : EvaluationOutcome) (run : List ℕ) (s : State) (ks : List ℕ) → e .outcome ≡ o → evaluationAnswer e ≡ evaluation wide run s ks
+    → returns (told o .number) (told o .carried) (e .state) ≡ evaluation wide run s ks
 evaluated-told e o run s ks q h = ap (λ (x : EvaluationOutcome). returns (told x .number) (told x .carried) (e .state)) (sym q) ∙ h
 
 -- and of a translation into a room of 256 bytes
@@ -124,7 +125,7 @@ module _ (l m out out′ : List ℕ) (t : Translated) (h : length out ≡ 256) (
 
   -- the run is the room's part from 0 to n
   pub written-interpreted : (s : State) (ks : List ℕ) → Proper ks s → (n : ℕ) → t .outcome ≡ Written n
-      → evaluation (take (n - 0) out′) s ks ≡ interpretation l s ks
+      → evaluation wide (take (n - 0) out′) s ks ≡ interpretation l s ks
   unfolding outcomeNumber
   written-interpreted s ks w n q =
       let z : n - 0 ≡ n = omega arith in

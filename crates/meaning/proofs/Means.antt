@@ -9,10 +9,10 @@ use lib.Dec.{eqb, ltb}
 use lib.ListN.{length, getD}
 use borrow.Author.Tests.{not-true}
 use Rattle.strip.specs.declared.reader.Entry.{Entry}
-use Rattle.strip.specs.Entry.{Formed}
+use Rattle.strip.specs.Entry.{wide, Each, Formed}
 use Rattle.strip.specs.Shape.{all, endsOnce, stripOk, shapeOk, stripBytes, runBytes}
 use Rattle.strip.proofs.Tests.{and-left, and-right}
-use Rattle.strip.proofs.Run.{Each, Strip, strips-run, strips-shape}
+use Rattle.strip.proofs.Run.{Strip, strips-run, strips-shape}
 use Rattle.evaluation.specs.declared.state.State.{State}
 use Rattle.evaluation.specs.declared.machine.Outcome.{Outcome}
 use Rattle.evaluation.specs.declared.machine.Outcome.the-variants.{Done, Refused}
@@ -57,7 +57,7 @@ module _ (cs : List ℕ) (i : Record) (s : State) (w : Proper cs s) (hk : known 
   arm = sem cs (armOf (i .kind) (insn i)) [] s
 
   -- T6 and T7: 9 where its guard holds and a word that it reads is not lent, else exactly the state of the meaning; never 7, never 8
-  pub strip-means : evaluated (strip (i .kind) (insn i)) s cs ≡ recordAnswer cs i s
+  pub strip-means : evaluated wide (strip (i .kind) (insn i)) s cs ≡ recordAnswer cs i s
   unfolding recordAnswer unlent meaning pred predicateAt T.bits T.bit
   strip-means = strip-evaluated cs (i .kind) (insn i) s ∙ go (runs i s) (reads i && not (lent cs i)) refl
     where
@@ -91,8 +91,8 @@ admits-known l h =
 strip-at : (l : List ℕ) → strip (recordOf l .kind) (insn (recordOf l)) ≡ stripAt l
 strip-at l = rw (kind-same l) (ap (strip (getD l 0 0)) (insn-same l))
 
-pub record-means : (cs l : List ℕ) (s : State) → Proper cs s → admits l ≡ true → evaluated (stripAt l) s cs ≡ recordAnswer cs (recordOf l) s
-record-means cs l s w h = let a = admits-known l h in ap (λ (x : List ℕ). evaluated x s cs) (sym (strip-at l)) ∙ strip-means cs (recordOf l) s w (a .0) (a .1)
+pub record-means : (cs l : List ℕ) (s : State) → Proper cs s → admits l ≡ true → evaluated wide (stripAt l) s cs ≡ recordAnswer cs (recordOf l) s
+record-means cs l s w h = let a = admits-known l h in ap (λ (x : List ℕ). evaluated wide x s cs) (sym (strip-at l)) ∙ strip-means cs (recordOf l) s w (a .0) (a .1)
 
 -- ---- a run
 
@@ -115,12 +115,12 @@ restored-on s r f = go (r .outcome) refl
 abbrev entriesAt : List ℕ → List Entry
 entriesAt l = entriesOf (getD l 0 0) (insnOf l)
 
-strips-bytes : (ls : List (List ℕ)) → runOf ls ≡ runBytes (map entriesAt ls)
+strips-bytes : (ls : List (List ℕ)) → runOf ls ≡ runBytes wide (map entriesAt ls)
 unfolding runOf runBytes strip
 strips-bytes [] = refl
-strips-bytes (l ∷ ls) = ap (λ (x : List ℕ). stripBytes (entriesAt l) ++ x) (strips-bytes ls)
+strips-bytes (l ∷ ls) = ap (λ (x : List ℕ). stripBytes wide (entriesAt l) ++ x) (strips-bytes ls)
 
-strips-formed : (ls : List (List ℕ)) → Each (Each Formed) (map entriesAt ls)
+strips-formed : (ls : List (List ℕ)) → Each (Each (Formed wide)) (map entriesAt ls)
 strips-formed [] = tt
 strips-formed (l ∷ ls) = (strip-well-formed (getD l 0 0) (insnOf l) .formed, strips-formed ls)
 
@@ -128,22 +128,22 @@ strips-pass : (ls : List (List ℕ)) → all stripOk (map entriesAt ls) ≡ true
 strips-pass [] = refl
 strips-pass (l ∷ ls) = rw (strip-well-formed (getD l 0 0) (insnOf l) .passes) (strips-pass ls)
 
-strips-ended : (ls : List (List ℕ)) → Each Strip (map entriesAt ls)
+strips-ended : (ls : List (List ℕ)) → Each (Strip wide) (map entriesAt ls)
 unfolding stripOk
 strips-ended [] = tt
 strips-ended (l ∷ ls) = let o = strip-well-formed (getD l 0 0) (insnOf l) in (record { ends = and-left (endsOnce (entriesAt l)) _ (o .passes); formed = o .formed }, strips-ended ls)
 
 -- the strips of any records, one after another, are a run that passes the shape test
-pub strips-shaped : (ls : List (List ℕ)) → shapeOk (runOf ls) ≡ true
-strips-shaped ls = rw (strips-bytes ls) (strips-shape (map entriesAt ls) (strips-formed ls) (strips-pass ls))
+pub strips-shaped : (ls : List (List ℕ)) → shapeOk wide (runOf ls) ≡ true
+strips-shaped ls = rw (strips-bytes ls) (strips-shape wide (map entriesAt ls) (strips-formed ls) (strips-pass ls))
 
-strips-from : (cs : List ℕ) (s : State) (ls : List (List ℕ)) → evaluated (runOf ls) s cs ≡ restored s (stripsFrom cs s (map entriesAt ls))
-strips-from cs s ls = evaluated-strips s cs (runOf ls) (map entriesAt ls) (rw (strips-bytes ls) (strips-run (map entriesAt ls) (strips-ended ls))) (strips-shaped ls)
+strips-from : (cs : List ℕ) (s : State) (ls : List (List ℕ)) → evaluated wide (runOf ls) s cs ≡ restored s (stripsFrom cs s (map entriesAt ls))
+strips-from cs s ls = evaluated-strips s cs wide (runOf ls) (map entriesAt ls) (rw (strips-bytes ls) (strips-run wide (map entriesAt ls) (strips-ended ls))) (strips-shaped ls)
 
 -- one strip is a run of one
-one-strip : (cs : List ℕ) (s : State) (l : List ℕ) → restored s (onward (entriesFrom cs (begun s) (entriesAt l)) (λ t. ends Done t)) ≡ evaluated (stripAt l) s cs
+one-strip : (cs : List ℕ) (s : State) (l : List ℕ) → restored s (onward (entriesFrom cs (begun s) (entriesAt l)) (λ t. ends Done t)) ≡ evaluated wide (stripAt l) s cs
 unfolding stripsFrom
-one-strip cs s l = sym (evaluated-strips s cs (stripAt l) (entriesAt l ∷ []) (strip-decodes (getD l 0 0) (insnOf l)) (strip-shape (getD l 0 0) (insnOf l)))
+one-strip cs s l = sym (evaluated-strips s cs wide (stripAt l) (entriesAt l ∷ []) (strip-decodes (getD l 0 0) (insnOf l)) (strip-shape (getD l 0 0) (insnOf l)))
 
 -- the answers of records, one after another: the first refusal ends them, and the state beside it is the one before that record
 unfoldable pub recordAnswers : List ℕ → List (List ℕ) → State → Evaluated
@@ -171,7 +171,7 @@ module _ (cs : List ℕ) where
           (sym (restored-twice s t (stripsFrom cs t (map entriesAt ls))) ∙ ap (restored s) (ih e) ∙ restored-twice s t (recordAnswers cs ls t))
 
   -- T7b: strips one after another do what their records mean, one after another; the first word that is not lent refuses the run
-  pub run-answers : (ls : List (List ℕ)) (s : State) → Proper cs s → Each (λ l. admits l ≡ true) ls → evaluated (runOf ls) s cs ≡ restored s (recordAnswers cs ls s)
+  pub run-answers : (ls : List (List ℕ)) (s : State) → Proper cs s → Each (λ l. admits l ≡ true) ls → evaluated wide (runOf ls) s cs ≡ restored s (recordAnswers cs ls s)
   run-answers ls s w h = strips-from cs s ls ∙ answers-from ls s w h
 
   -- every word that the record reads is lent
@@ -184,5 +184,5 @@ module _ (cs : List ℕ) where
   answers-lent [] s h = refl
   answers-lent (l ∷ ls) s h = rw (answer-lent cs (recordOf l) s (rw (h .0) (and-false (runs (recordOf l) s)))) (answers-lent ls (meaning cs (recordOf l) s) (h .1))
 
-  pub run-means : (ls : List (List ℕ)) (s : State) → Proper cs s → Each (λ l. admits l ≡ true) ls → Each Lent ls → evaluated (runOf ls) s cs ≡ ends Done (meanings cs ls s)
+  pub run-means : (ls : List (List ℕ)) (s : State) → Proper cs s → Each (λ l. admits l ≡ true) ls → Each Lent ls → evaluated wide (runOf ls) s cs ≡ ends Done (meanings cs ls s)
   run-means ls s w h r = run-answers ls s w h ∙ ap (restored s) (answers-lent ls s r)

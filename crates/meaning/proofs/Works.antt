@@ -9,7 +9,7 @@ use lib.Dec.{eqb, ltb, leb}
 use lib.ListN.{length, length-set}
 use lib.Seq.{getD-set-same, getD-set-other}
 use borrow.Author.Tests.{leb-true, leb-false}
-use Rattle.strip.proofs.Run.{Each}
+use Rattle.strip.specs.Entry.{wide, Each}
 use Rattle.evaluation.specs.declared.state.State.{State}
 use Rattle.evaluation.specs.declared.machine.Outcome.the-variants.{Done}
 use Rattle.evaluation.specs.declared.machine.Evaluated.{Evaluated}
@@ -154,7 +154,7 @@ module _ (cs : List ℕ) (s : State) (w : Words cs s) where
     preds = next-preds;
   }
 
-  next-evaluated : evaluated (runOf countRecords) s cs ≡ ends Done next
+  next-evaluated : evaluated wide (runOf countRecords) s cs ≡ ends Done next
   unfolding next low meanings
   next-evaluated =
       run-means cs countRecords s (w .proper) count-admitted (count-reads cs)
@@ -166,7 +166,7 @@ one-more x y z n p q = omega arith
 -- a run evaluated n times, one time after another, up to the first refusal
 unfoldable pub repeated : List ℕ → List ℕ → ℕ → State → Evaluated
 repeated run cs zero s = ends Done s
-repeated run cs (suc n) s = onward (repeated run cs n s) (λ t. evaluated run t cs)
+repeated run cs (suc n) s = onward (repeated run cs n s) (λ t. evaluated wide run t cs)
 
 record Counted (cs : List ℕ) (n : ℕ) (s : State) (e : Evaluated) : Type 0 where
   pub done : e .outcome ≡ Done
@@ -179,7 +179,7 @@ module _ (cs : List ℕ) (s : State) (w : Words cs s) where
   counted-up zero = record { done = refl; words = w; counts = record { count = omega (arith, reg-word cs s 0 (w .proper), reg-word cs s 1 (w .proper)); others = λ k h. refl; preds = refl } }
   counted-up (suc n) = more (counted-up n)
     where
-      more : Counted cs n s (repeated (runOf countRecords) cs n s) → Counted cs (suc n) s (onward (repeated (runOf countRecords) cs n s) (λ t. evaluated (runOf countRecords) t cs))
+      more : Counted cs n s (repeated (runOf countRecords) cs n s) → Counted cs (suc n) s (onward (repeated (runOf countRecords) cs n s) (λ t. evaluated wide (runOf countRecords) t cs))
       more b =
           let t = repeated (runOf countRecords) cs n s .state in
           let c = next-counts cs t (b .words) in
@@ -277,12 +277,12 @@ module _ (cs : List ℕ) (s : State) (w : Proper cs s) (l : length (s .regs) ≡
     preds = stored-preds total 2 _ refl ∙ sum-preds (reg s 1) s;
   }
 
-  end-evaluated : evaluated (runOf conditionsRecords) s cs ≡ ends Done end
+  end-evaluated : evaluated wide (runOf conditionsRecords) s cs ≡ ends Done end
   unfolding end total meanings
   end-evaluated =
       run-means cs conditionsRecords s w conditions-admitted (conditions-reads cs)
       ∙ ap (ends Done) (ap (meaning cs (recordOf conditionsPack)) (sum-is cs s) ∙ packs-is cs total)
 
   -- from every state the work's run is not refused, its four bits are the sum's flags, and the number beside them survives
-  pub conditions-pack : (evaluated (runOf conditionsRecords) s cs .outcome ≡ Done) × Packs s (evaluated (runOf conditionsRecords) s cs .state)
+  pub conditions-pack : (evaluated wide (runOf conditionsRecords) s cs .outcome ≡ Done) × Packs s (evaluated wide (runOf conditionsRecords) s cs .state)
   conditions-pack = rw end-evaluated (refl, end-packs)

@@ -1,9 +1,11 @@
 // A record on a state: it is translated and its strip evaluated, and what comes back is what the record means.
 ghost use mathlib.Core.Path.{_≡_};
+ghost use Rattle.strip.specs.Entry.{wide};
 ghost use Rattle.evaluation.specs.Machine.{evaluation};
 ghost use Rattle.meaning.specs.Interpret.{told, answerOf, interpretation};
 use evaluation::Refusal;
 use evaluation::State;
+use strip::Layout;
 
 pub enum Outcome {
     Done,
@@ -41,9 +43,9 @@ fn refused(state: State, number: u32) -> Interpreted
 
 // A strip from a state.
 fn evaluate(run: &[u8], state: State, constants: &[u32]) -> Interpreted
-    ensures { λ r. ⌜ answerOf r ≡ evaluation (now (run .entry)) state (now (constants .entry)) ⌝ }
+    ensures { λ r. ⌜ answerOf r ≡ evaluation wide (now (run .entry)) state (now (constants .entry)) ⌝ }
 {
-    let e = evaluation::evaluate(run, state, constants);
+    let e = evaluation::evaluate(run, Layout::Wide, state, constants);
     let o = e.outcome;
     let after = e.state;
     match o {

@@ -67,13 +67,13 @@ loaded-outside k n l h p s = go (eqb k 4) refl (eqb k 5) refl
         rw (is, r) refl
 
 -- the listed cells, and those that no state has: two starts that agree on the first agree on all of these
-unfoldable pub wide : Cells → ℕ → ℕ → Bool
-wide c k n = listed c k n || outside k n
+unfoldable pub extended : Cells → ℕ → ℕ → Bool
+extended c k n = listed c k n || outside k n
 
 -- a slot that passes the test is inside, a cell of the state may not be
-pub wide-where : (f : ℕ → ℕ → Bool) (k n : ℕ) → (eqb k 10 ≡ true → ltb n 32 ≡ true) → f k n ≡ true → wide (Reach.cellsWhere f) k n ≡ true
-unfolding wide outside inside
-wide-where f k n slot p = rw (listed-where f k n, p) (go (inside k n) refl (eqb k 10) refl)
+pub extended-where : (f : ℕ → ℕ → Bool) (k n : ℕ) → (eqb k 10 ≡ true → ltb n 32 ≡ true) → f k n ≡ true → extended (Reach.cellsWhere f) k n ≡ true
+unfolding extended outside inside
+extended-where f k n slot p = rw (listed-where f k n, p) (go (inside k n) refl (eqb k 10) refl)
   where
     go : (a : Bool) → inside k n ≡ a → (b : Bool) → eqb k 10 ≡ b → (a && true) || (not b && not a) ≡ true
     go true a b q = refl

@@ -5,6 +5,7 @@ use mathlib.Core.Bool.{true, false}
 use mathlib.Core.List.{List}
 use mathlib.Core.Option.{some}
 use Prim.Native.Nat.{ℕ, zero, suc}
+use Rattle.strip.specs.Entry.{wide}
 use Rattle.strip.specs.declared.reader.Entry.{Entry}
 use Rattle.strip.specs.Shape.{decode, shapeOk}
 use Rattle.reach.specs.declared.cells.Cells.{Cells}
@@ -13,11 +14,11 @@ use Rattle.reach.specs.declared.cells.Outcome.the-variants.{Done, BadSha
 use Rattle.reach.specs.declared.cells.Reached.{Reached}
 use Rattle.reach.specs.Reach.{reachStrips, reached, numberOf, Answer, answerOf, reachAnswer}
 
-pub well-formed-reached : (run : List ℕ) (ss : List (List Entry)) (c : Cells) → shapeOk run ≡ true → decode run ≡ some ss → reachAnswer run c ≡ record { number = 0; cells = reachStrips ss c }
+pub well-formed-reached : (run : List ℕ) (ss : List (List Entry)) (c : Cells) → shapeOk wide run ≡ true → decode wide run ≡ some ss → reachAnswer run c ≡ record { number = 0; cells = reachStrips ss c }
 unfolding reachAnswer reached numberOf
 well-formed-reached run ss c h d = rw (h, d)
 
-pub ill-formed-refused : (run : List ℕ) (c : Cells) → shapeOk run ≡ false → reachAnswer run c ≡ record { number = 7; cells = c }
+pub ill-formed-refused : (run : List ℕ) (c : Cells) → shapeOk wide run ≡ false → reachAnswer run c ≡ record { number = 7; cells = c }
 unfolding reachAnswer reached numberOf
 ill-formed-refused run c h = rw h
 

@@ -12,7 +12,7 @@ use lib.Dec.{ltb, leb, eqb}
 use borrow.Author.Tests.{ltb-true, ltb-false, lt-ltb, ne-eqb}
 use Rattle.strip.specs.declared.reader.Entry.{Entry}
 use Rattle.strip.specs.Format.{formatOf}
-use Rattle.strip.specs.Entry.{kindOf}
+use Rattle.strip.specs.Entry.{wide, kindOf}
 use Rattle.strip.specs.Shape.{all, isOpen, endsOnce, cellOk, stripOk, decode, allOk, shapeOk}
 use Rattle.strip.proofs.Tests.{and-left, and-right}
 use Rattle.evaluation.specs.declared.state.State.{State}
@@ -26,7 +26,7 @@ use Rattle.evaluation.proofs.Laws.{cond-all, entries-keep, strips-keep}
 use Rattle.evaluation.proofs.Agree.{done-lacks, Sizes, Loads, NoOpen, storedBy, DoneAgree, strip-both, strip-stored}
 use Rattle.reach.specs.declared.cells.Cells.{Cells}
 use Rattle.reach.specs.Reach.{listed, cellsWhere, any, storesListed, before, rule, reachStrips, reached}
-use Rattle.reach.proofs.CellSets.{inside, outside, listed-where, loaded-outside, wide, wide-where, or-left, or-right, strip-leaves, slot-inside, slots-stay}
+use Rattle.reach.proofs.CellSets.{inside, outside, listed-where, loaded-outside, extended, extended-where, or-left, or-right, strip-leaves, slot-inside, slots-stay}
 
 -- two starts, or two ends, each a state with its lent list: they agree on the listed cells and slots
 pub record Agree (c : Cells) (s : State) (cs : List ℕ) (t : State) (ds : List ℕ) : Type 0 where
@@ -96,17 +96,17 @@ stored-any [] k n = refl
 stored-any (e ∷ es) k n = ap (λ (b : Bool). stores k n e || b) (stored-any es k n)
 
 -- starts that agree on the listed cells agree on those that no state has, too
-wide-agree : (c : Cells) (s t : State) → AgreeCells (listed c) s t → AgreeCells (wide c) s t
-unfolding wide
-wide-agree c s t a k n l h p = go (listed c k n) refl
+extended-agree : (c : Cells) (s t : State) → AgreeCells (listed c) s t → AgreeCells (extended c) s t
+unfolding extended
+extended-agree c s t a k n l h p = go (listed c k n) refl
   where
     go : (b : Bool) → listed c k n ≡ b → loaded s k n ≡ loaded t k n
     go true q = a k n l h q
     go false q = let o : outside k n ≡ true = rw q at p in loaded-outside k n l h o s ∙ sym (loaded-outside k n l h o t)
 
-wide-slots : (c : Cells) (cs ds : List ℕ) → AgreeSlots (listed c) cs ds → AgreeSlots (wide c) cs ds
-unfolding wide outside
-wide-slots c cs ds a n w p = a n w (sym (or-false (listed c 10 n)) ∙ p)
+extended-slots : (c : Cells) (cs ds : List ℕ) → AgreeSlots (listed c) cs ds → AgreeSlots (extended c) cs ds
+unfolding extended outside
+extended-slots c cs ds a n w p = a n w (sym (or-false (listed c 10 n)) ∙ p)
 
 module _ (cs ds : List ℕ) (es : List Entry) (c : Cells) (s t : State) where
   abbrev here : Evaluated
@@ -126,26 +126,26 @@ module _ (cs ds : List ℕ) (es : List Entry) (c : Cells) (s t : State) where
   module _ (ok : CellsOk es) (z : Sizes s t) (a : Agree (cellsWhere (before es c)) s cs t ds)
       (d : isDone (here .outcome) ≡ true) (e : isDone (there .outcome) ≡ true) where
     known : ℕ → ℕ → Bool
-    known = wide (cellsWhere (before es c))
+    known = extended (cellsWhere (before es c))
 
     slots : AgreeSlots known cs ds
     unfolding known
-    slots = wide-slots (cellsWhere (before es c)) cs ds (a .slots)
+    slots = extended-slots (cellsWhere (before es c)) cs ds (a .slots)
 
     cells : AgreeCells known s t
     unfolding known
-    cells = wide-agree (cellsWhere (before es c)) s t (a .cells)
+    cells = extended-agree (cellsWhere (before es c)) s t (a .cells)
 
     all-known : Loads cs ds known slots es
     unfolding known before
     all-known =
         loads-known cs ds known slots es ok
-        (λ k n i p. wide-where (before es c) k n i (rw p (or-true (listed c k n && (any isOpen es || not (any (stores k n) es))))))
+        (λ k n i p. extended-where (before es c) k n i (rw p (or-true (listed c k n && (any isOpen es || not (any (stores k n) es))))))
 
     -- a listed cell that stayed in the list is known
     stayed : (k n : ℕ) → k ≤ 6 → listed c k n ≡ true → any isOpen es || not (any (stores k n) es) ≡ true → known k n ≡ true
     unfolding known before
-    stayed k n h q p = wide-where (before es c) k n (λ x. absurd (false≢true (sym (ne-eqb k 10 (λ (y : k ≡ 10). omega arith)) ∙ x))) (rw (q, p) refl)
+    stayed k n h q p = extended-where (before es c) k n (λ x. absurd (false≢true (sym (ne-eqb k 10 (λ (y : k ≡ 10). omega arith)) ∙ x))) (rw (q, p) refl)
 
     strip-works : AgreeCells (listed c) (here .state) (there .state)
     strip-works k n l h q = go (any isOpen es) refl (any (stores k n) es) refl
@@ -240,11 +240,11 @@ strips-agree cs ds c i (es ∷ ss) ok s t z a p q =
 
 -- the strips of a run
 abbrev pub strips : List ℕ → List (List Entry)
-strips run = Option·getD (decode run) []
+strips run = Option·getD (decode wide run) []
 
-strips-ok : (run : List ℕ) → shapeOk run ≡ true → all stripOk (strips run) ≡ true
+strips-ok : (run : List ℕ) → shapeOk wide run ≡ true → all stripOk (strips run) ≡ true
 unfolding shapeOk
-strips-ok run p = go (decode run) p
+strips-ok run p = go (decode wide run) p
   where
     go : (o : Option (List (List Entry))) → allOk o ≡ true → all stripOk (Option·getD o []) ≡ true
     go none p = absurd (false≢true p)
@@ -252,18 +252,18 @@ strips-ok run p = go (decode run) p
 
 -- a run that is done passed the shape test, and its end is that of its strips
 pub record Accepted (run : List ℕ) (s : State) (cs : List ℕ) : Type 0 where
-  pub shape : shapeOk run ≡ true
+  pub shape : shapeOk wide run ≡ true
   pub done : isDone (stripsFrom cs s (strips run) .outcome) ≡ true
-  pub end : evaluated run s cs ≡ stripsFrom cs s (strips run)
+  pub end : evaluated wide run s cs ≡ stripsFrom cs s (strips run)
 
-pub accepted : (run : List ℕ) (s : State) (cs : List ℕ) → evaluated run s cs .outcome ≡ Done → Accepted run s cs
+pub accepted : (run : List ℕ) (s : State) (cs : List ℕ) → evaluated wide run s cs .outcome ≡ Done → Accepted run s cs
 unfolding evaluated
-accepted run s cs p = go (shapeOk run) refl (isDone (stripsFrom cs s (strips run) .outcome)) refl (ap isDone p)
+accepted run s cs p = go (shapeOk wide run) refl (isDone (stripsFrom cs s (strips run) .outcome)) refl (ap isDone p)
   where
     r : Evaluated
     r = stripsFrom cs s (strips run)
 
-    go : (a : Bool) → shapeOk run ≡ a → (b : Bool) → isDone (r .outcome) ≡ b
+    go : (a : Bool) → shapeOk wide run ≡ a → (b : Bool) → isDone (r .outcome) ≡ b
         → isDone (cond a (cond b r (ends (r .outcome) s)) (ends (Refused BadShape) s) .outcome) ≡ true → Accepted run s cs
     go true a true b q = record { shape = a; done = b; end = rw (a, b) refl }
     go true a false b q = absurd (false≢true (sym b ∙ q))
@@ -273,13 +273,13 @@ accepted run s cs p = go (shapeOk run) refl (isDone (stripsFrom cs s (strips run
 pub record Starts (run : List ℕ) (list : Cells) (s : State) (cs : List ℕ) (t : State) (ds : List ℕ) : Type 0 where
   pub sizes : Sizes s t
   pub agree : Agree list s cs t ds
-  pub one : evaluated run s cs .outcome ≡ Done
-  pub two : evaluated run t ds .outcome ≡ Done
+  pub one : evaluated wide run s cs .outcome ≡ Done
+  pub two : evaluated wide run t ds .outcome ≡ Done
 
 -- Starts that agree on the list of the rule have ends that agree on the asked cells. Nothing else is asked of the run: one that is done
 -- passed the shape test. Of the asked cells' lists only the slots' length matters, since no state has a register past the last.
 pub isolation-strips : (run : List ℕ) (c : Cells) → length (c .slots) ≡ 32 → (s t : State) (cs ds : List ℕ)
-    → Starts run (reachStrips (strips run) c) s cs t ds → Agree c (evaluated run s cs .state) cs (evaluated run t ds .state) ds
+    → Starts run (reachStrips (strips run) c) s cs t ds → Agree c (evaluated wide run s cs .state) cs (evaluated wide run t ds .state) ds
 isolation-strips run c z s t cs ds a =
     let i = asked-inside c z in
     let one = accepted run s cs (a .one) in
@@ -289,7 +289,7 @@ isolation-strips run c z s t cs ds a =
 
 -- Isolation: the same of the list that reach answers.
 pub isolation : (run : List ℕ) (c : Cells) → length (c .slots) ≡ 32 → (s t : State) (cs ds : List ℕ)
-    → Starts run (reached run c .cells) s cs t ds → Agree c (evaluated run s cs .state) cs (evaluated run t ds .state) ds
+    → Starts run (reached run c .cells) s cs t ds → Agree c (evaluated wide run s cs .state) cs (evaluated wide run t ds .state) ds
 unfolding reached
 isolation run c z s t cs ds a =
     let shape = accepted run s cs (a .one) .shape in
@@ -309,10 +309,10 @@ none-store k n (es ∷ ss) p = rw (none-stores k n es (or-left (any (stores k n)
 
 -- A cell that no strip of the run stores is as it was, whatever the run and the answer.
 pub unchanged : (run : List ℕ) (s : State) (cs : List ℕ) (k n : ℕ) → 4 ≤ k → k ≤ 6 → storedIn run k n ≡ false
-    → loaded (evaluated run s cs .state) k n ≡ loaded s k n
+    → loaded (evaluated wide run s cs .state) k n ≡ loaded s k n
 unfolding evaluated
 unchanged run s cs k n l h p =
-    cond-all Same (shapeOk run) _ _
+    cond-all Same (shapeOk wide run) _ _
     (cond-all Same (isDone (stripsFrom cs s (strips run) .outcome)) _ _ (strips-keep k n l h cs s (strips run) (none-store k n (strips run) p)) refl)
     refl
   where

@@ -8,6 +8,7 @@ use native.Mathlib.Omega.{arith}
 use lib.Dec.{eqb}
 use lib.ListN.{length, getD}
 use borrow.Author.Tests.{lt-ltb, le-ltb}
+use Rattle.strip.specs.Entry.{wide}
 use Rattle.strip.specs.Shape.{decode, shapeOk}
 use Rattle.reach.specs.declared.cells.Cells.{Cells}
 use Rattle.reach.specs.declared.cells.Outcome.the-variants.{Done, BadShape}
@@ -155,13 +156,13 @@ listed-by t c w p₁ p₂ p₃ p₄ = rw (p₁, p₂, p₃, p₄, w .regs, w .pr
 
 -- ---- the whole
 module _ (run : List ℕ) (c : Cells) where
-  pub refused : shapeOk run ≡ false → record { cells = c; outcome = BadShape } ≡ reached run c
+  pub refused : shapeOk wide run ≡ false → record { cells = c; outcome = BadShape } ≡ reached run c
   unfolding reached
   refused p = rw p
 
-  pub answered : Whole c → shapeOk run ≡ true → (t : List ℕ) → Holds t run → record { cells = listedCells (collected t c) c; outcome = Done } ≡ reached run c
+  pub answered : Whole c → shapeOk wide run ≡ true → (t : List ℕ) → Holds t run → record { cells = listedCells (collected t c) c; outcome = Done } ≡ reached run c
   unfolding reached
   answered w p t h =
-      let ss = Option·getD (decode run) [] in
+      let ss = Option·getD (decode wide run) [] in
       rw p
       (ap {B = Reached} (λ (z : Cells). record { cells = z; outcome = Done }) (listed-cells-are (collected t c) c (reachStrips ss c) (reach-whole ss c w) (λ d l. answer-bit t c (h .sized) d l ∙ h .reach c w d l)))

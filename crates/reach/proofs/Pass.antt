@@ -18,7 +18,7 @@ use Rattle.strip.specs.declared.reader.Entry.the-variants as Entry
 use Rattle.strip.specs.declared.reader.Read.the-variants.{Stop}
 use Rattle.strip.specs.declared.shape.Shape.{Shape}
 use Rattle.strip.specs.Format.{formatOf}
-use Rattle.strip.specs.Entry.{kindOf, bodyOf, readsFrom}
+use Rattle.strip.specs.Entry.{wide, kindOf, bodyOf, readsFrom}
 use Rattle.strip.specs.Shape.{isOpen, isEnd, joined, cutAtEnds, decode, allOk, shapeOk}
 use Rattle.strip.specs.Pass.{Ready, fresh, refusedShape, with, pushed, placed, opened, closed, after, entryOk, stepped, passFrom}
 use Rattle.strip.specs.Pass as Shape
@@ -176,7 +176,7 @@ room-step g s e r body ok h = go (isEnd e) refl
 
 -- the strips that are left of a run; there are some
 unfoldable pub strips : List ℕ → ℕ → Option (List (List Entry))
-strips run at = cutAtEnds (readsFrom 0 (drop at run))
+strips run at = cutAtEnds (readsFrom wide 0 (drop at run))
 
 unfoldable pub going : Option (List (List Entry)) → Bool
 going none = false
@@ -186,15 +186,15 @@ going (O.some ss) = true
 pub record Reaching (run : List ℕ) (at : ℕ) (t cs : List ℕ) (s : StripSummary) : Type 0 where
   pub goes : going (strips run at) ≡ true
   pub holds : (c : Cells) → Whole c → (d : ℕ) → d < 298
-      → rest (column t d) (inRow t 298 d) (among cs (s .count)) (s .block) (Option·getD (strips run at) []) c ≡ listedNo (reachStrips (Option·getD (decode run) []) c) d
+      → rest (column t d) (inRow t 298 d) (among cs (s .count)) (s .block) (Option·getD (strips run at) []) c ≡ listedNo (reachStrips (Option·getD (decode wide run) []) c) d
 
 -- what each turn of the loop keeps
 pub record Passing (run : List ℕ) (at : ℕ) (t cs : List ℕ) (s : StripSummary) (g : Shape) : Type 0 where
   pub kept : Lengths t cs
   pub ready : Ready g
   pub room : s .count + g .left ≤ 64
-  pub shape : passFrom g (readsFrom 0 (drop at run)) ≡ shapeOk run
-  pub reaching : shapeOk run ≡ true → Reaching run at t cs s
+  pub shape : passFrom g (readsFrom wide 0 (drop at run)) ≡ shapeOk wide run
+  pub reaching : shapeOk wide run ≡ true → Reaching run at t cs s
 
 pub passing-begin : (run t cs : List ℕ) → Sized t → ((i : ℕ) → getD t i 0 ≡ 0) → length cs ≡ 64 → Passing run 0 t cs nothing fresh
 unfolding strips going decode shapeOk
@@ -202,12 +202,12 @@ passing-begin run t cs sized zeros room = record {
   kept = record { sized = sized; room = room };
   ready = ready-fresh;
   room = omega arith;
-  shape = pass-shape run;
+  shape = pass-shape wide run;
   reaching = λ p. record {
-    goes = go (cutAtEnds (readsFrom 0 run)) p;
+    goes = go (cutAtEnds (readsFrom wide 0 run)) p;
     holds = λ c w d h.
-        ap (λ (u : Bool). rest (column t d) u (among cs 0) false (Option·getD (cutAtEnds (readsFrom 0 run)) []) c) (zero-bit t zeros 298 d)
-        ∙ rest-begin (column t d) d h (λ x l. lists-first t zeros x d) (Option·getD (cutAtEnds (readsFrom 0 run)) []) c w;
+        ap (λ (u : Bool). rest (column t d) u (among cs 0) false (Option·getD (cutAtEnds (readsFrom wide 0 run)) []) c) (zero-bit t zeros 298 d)
+        ∙ rest-begin (column t d) d h (λ x l. lists-first t zeros x d) (Option·getD (cutAtEnds (readsFrom wide 0 run)) []) c w;
   };
 }
   where
@@ -216,23 +216,23 @@ passing-begin run t cs sized zeros room = record {
     go (O.some ss) h = refl
 
 -- the run is refused
-pub refused-run : (t run : List ℕ) → false ≡ shapeOk run → Passed t run false
+pub refused-run : (t run : List ℕ) → false ≡ shapeOk wide run → Passed t run false
 refused-run t run p = record { shape = p; holds = λ q. absurd (false≢true q) }
 
 module _ (run : List ℕ) (at : ℕ) (t cs : List ℕ) (s : StripSummary) (g : Shape) (passing : Passing run at t cs s g) where
-  pub passing-stop : readsFrom 0 (drop at run) ≡ Stop ∷ [] → false ≡ shapeOk run
+  pub passing-stop : readsFrom wide 0 (drop at run) ≡ Stop ∷ [] → false ≡ shapeOk wide run
   passing-stop p = pass-stop g _ p ∙ passing .shape
 
   pub passing-done : length run ≤ at → Passed t run (eqb (g .left) 64)
   unfolding passFrom strips cutAtEnds readsFrom rest inTable
   passing-done h =
-      let p : eqb (g .left) 64 ≡ shapeOk run = ap (λ (rs : List ℕ). passFrom g (readsFrom 0 rs)) (sym (drop-of-length-le run h)) ∙ passing .shape in
+      let p : eqb (g .left) 64 ≡ shapeOk wide run = ap (λ (rs : List ℕ). passFrom g (readsFrom wide 0 rs)) (sym (drop-of-length-le run h)) ∙ passing .shape in
       record {
         shape = p;
         holds = λ ok. record {
           sized = passing .kept .sized;
           reach = λ c w d l.
-              ap (λ (rs : List ℕ). rest (column t d) (inRow t 298 d) (among cs (s .count)) (s .block) (Option·getD (cutAtEnds (readsFrom 0 rs)) []) c) (sym (drop-of-length-le run h))
+              ap (λ (rs : List ℕ). rest (column t d) (inRow t 298 d) (among cs (s .count)) (s .block) (Option·getD (cutAtEnds (readsFrom wide 0 rs)) []) c) (sym (drop-of-length-le run h))
               ∙ passing .reaching (sym p ∙ ok) .holds c w d l;
         };
       }
@@ -240,8 +240,8 @@ module _ (run : List ℕ) (at : ℕ) (t cs : List ℕ) (s : StripSummary) (g : S
   pub passing-room : s .count < 64
   passing-room = let l = passing .ready .left in let r = passing .room in omega arith
 
-  module _ (e : Entry) (n : ℕ) (turn : Turn run at e n) where
-    pub passing-refused : stepped g e .left ≡ 0 → false ≡ shapeOk run
+  module _ (e : Entry) (n : ℕ) (turn : Turn wide run at e n) where
+    pub passing-refused : stepped g e .left ≡ 0 → false ≡ shapeOk wide run
     passing-refused p = pass-refused g _ e n _ (turn .reads) p ∙ passing .shape
 
     here : strips run at ≡ joined e (strips run (at + n))

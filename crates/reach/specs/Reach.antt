@@ -6,6 +6,7 @@ use mathlib.Core.Option.{Option·getD}
 use Prim.Native.Nat.{ℕ, zero, suc}
 use lib.Dec.{eqb}
 use lib.ListN.{getD}
+use Rattle.strip.specs.Entry.{wide}
 use Rattle.strip.specs.declared.reader.Entry.{Entry}
 use Rattle.strip.specs.declared.reader.Entry.the-variants as Entry
 use Rattle.strip.specs.Shape.{isOpen, decode, shapeOk}
@@ -65,7 +66,7 @@ reachStrips (es ∷ ss) c = rule es (reachStrips ss c)
 -- a run that is not well-formed is refused, with the asked cells
 unfoldable pub reached : List ℕ → Cells → Reached
 reached run c =
-    cond (shapeOk run) (record { cells = reachStrips (Option·getD (decode run) []) c; outcome = Done }) (record { cells = c; outcome = BadShape })
+    cond (shapeOk wide run) (record { cells = reachStrips (Option·getD (decode wide run) []) c; outcome = Done }) (record { cells = c; outcome = BadShape })
 
 -- ---- the answer: 01's number, and the cells
 

@@ -9,6 +9,7 @@ use mathlib.Core.Bool.{Bool, true, false, cond, _&&_, _||_}
 use lib.Dec.{ltb, eqb}
 use lib.Bits.{bitOr}
 use lib.ListN.{length, getD, set}
+use Rattle.strip.specs.Entry.{wide}
 use Rattle.strip.specs.declared.reader.Entry.{Entry}
 use Rattle.strip.specs.declared.reader.Entry.the-variants as Entry
 use Rattle.strip.specs.Shape.{decode, shapeOk}
@@ -158,11 +159,11 @@ pub record Whole (c : Cells) : Type 0 where
 -- the table holds the reach of a run
 pub record Holds (t run : List ℕ) : Type 0 where
   pub sized : Sized t
-  pub reach : (c : Cells) → Whole c → (d : ℕ) → d < 298 → inTable t c d ≡ listedNo (reachStrips (Option·getD (decode run) []) c) d
+  pub reach : (c : Cells) → Whole c → (d : ℕ) → d < 298 → inTable t c d ≡ listedNo (reachStrips (Option·getD (decode wide run) []) c) d
 
 -- what a pass leaves: whether the run is well-formed, and its reach where it is
 pub record Passed (t run : List ℕ) (ok : Bool) : Type 0 where
-  pub shape : ok ≡ shapeOk run
+  pub shape : ok ≡ shapeOk wide run
   pub holds : ok ≡ true → Holds t run
 
 -- ---- the answer

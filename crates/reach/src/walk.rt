@@ -16,6 +16,7 @@ use crate::rows::load;
 use crate::rows::store_all;
 use crate::rows::wipe;
 use strip::Entry;
+use strip::Layout;
 use strip::Read;
 use strip::Shape;
 
@@ -138,7 +139,7 @@ fn pass(run: &[u8], rows: &mut [u64]) -> bool
     let mut g = Shape::new();
     let mut at = 0;
     while at < run.len() {
-        let Read::Found(e, n) = strip::read_entry(&run[at..]) else {
+        let Read::Found(e, n) = strip::read_entry(&run[at..], Layout::Wide) else {
             return false;
         };
         g = g.step(e);

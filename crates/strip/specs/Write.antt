@@ -12,16 +12,16 @@ use Rattle.strip.specs.declared.writer.Written.the-variants.{Bytes, NoRo
 use Rattle.strip.specs.Entry.{encode}
 
 -- there is room for the entry from place i on
-unfoldable pub hasRoom : List ℕ → ℕ → Entry → Bool
-hasRoom s i e = leb (i + length (encode e)) (length s)
+unfoldable pub hasRoom : ℕ → List ℕ → ℕ → Entry → Bool
+hasRoom len s i e = leb (i + length (encode len e)) (length s)
 
 -- the whole list afterwards: the entry's bytes stand from place i on; where it does not fit, the list is as it was
-unfoldable pub writtenList : List ℕ → ℕ → Entry → List ℕ
-writtenList s i e = cond (hasRoom s i e) (sets s i (encode e)) s
+unfoldable pub writtenList : ℕ → List ℕ → ℕ → Entry → List ℕ
+writtenList len s i e = cond (hasRoom len s i e) (sets s i (encode len e)) s
 
 -- and the answer
-unfoldable pub writtenAnswer : List ℕ → ℕ → Entry → Written
-writtenAnswer s i e = cond (hasRoom s i e) (Bytes (length (encode e))) NoRoom
+unfoldable pub writtenAnswer : ℕ → List ℕ → ℕ → Entry → Written
+writtenAnswer len s i e = cond (hasRoom len s i e) (Bytes (length (encode len e))) NoRoom
 
 -- ---- what contracts say
 
@@ -29,6 +29,7 @@ writtenAnswer s i e = cond (hasRoom s i e) (Bytes (length (encode e))) NoRoom
 pub record Puts (s : List ℕ) (i : ℕ) (bytes : List ℕ) (s′ : List ℕ) : Type 0 where
   pub is : s′ ≡ sets s i bytes
 
-pub record Writes (s : List ℕ) (i : ℕ) (e : Entry) (s′ : List ℕ) (r : Written) : Type 0 where
-  pub list : s′ ≡ writtenList s i e
-  pub says : r ≡ writtenAnswer s i e
+-- an entry is written there, its references in len bytes each
+pub record Writes (len : ℕ) (s : List ℕ) (i : ℕ) (e : Entry) (s′ : List ℕ) (r : Written) : Type 0 where
+  pub list : s′ ≡ writtenList len s i e
+  pub says : r ≡ writtenAnswer len s i e

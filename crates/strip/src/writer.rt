@@ -1,9 +1,11 @@
 // The writer of entries, beside the reader: an entry's bytes go into a lent list, from a place on. Where it does not fit nothing is written.
 ghost use mathlib.Core.Path.{_≡_};
-ghost use Prim.Native.Nat.{_+_, _-_, _≤_};
+ghost use Prim.Native.Nat.{ℕ, _+_, _-_, _≤_};
 ghost use lib.ListN.{length};
-ghost use Rattle.strip.specs.Entry.{refBytes, wordBytes};
+ghost use Rattle.strip.specs.Entry.{refLength, numberBytes, wordBytes, encode};
 ghost use Rattle.strip.specs.Write.{Puts, Writes};
+use crate::format::Layout;
+use crate::format::ref_length;
 use crate::reader::Entry;
 
 // What writing answers: the number of the entry's bytes, which leads to the next place; or that there is no room for it.
@@ -22,17 +24,35 @@ fn left(len: usize, at: usize) -> usize
     len - at
 }
 
-// A reference: two bytes, little-endian.
-fn put_ref(out: &mut [u8], at: usize, r: u16)
-    requires { ⌜ at + 2 ≤ length (now out) ⌝ }
-    ensures { λ _. ⌜ Puts (now (out .entry)) at (refBytes r) (now (out .exit)) ⌝ }
+// A number's low byte.
+fn put_byte(out: &mut [u8], at: usize, x: u16)
+    requires { ⌜ at + 1 ≤ length (now out) ⌝ }
+    ensures { λ _. ⌜ Puts (now (out .entry)) at (numberBytes 1 x) (now (out .exit)) ⌝ }
 {
-    out[at] = (r % 256) as u8;
-    out[at + 1] = (r / 256 % 256) as u8;
+    out[at] = (x % 256) as u8;
 }
 
-// A word: four bytes, little-endian.
-fn put_word(out: &mut [u8], at: usize, w: u32)
+// A number in two bytes, little-endian.
+fn put_pair(out: &mut [u8], at: usize, x: u16)
+    requires { ⌜ at + 2 ≤ length (now out) ⌝ }
+    ensures { λ _. ⌜ Puts (now (out .entry)) at (numberBytes 2 x) (now (out .exit)) ⌝ }
+{
+    out[at] = (x % 256) as u8;
+    out[at + 1] = (x / 256 % 256) as u8;
+}
+
+fn put_ref(out: &mut [u8], layout: Layout, at: usize, r: u16)
+    requires { ⌜ at + refLength layout ≤ length (now out) ⌝ }
+    ensures { λ _. ⌜ Puts (now (out .entry)) at (numberBytes (refLength layout) r) (now (out .exit)) ⌝ }
+{
+    match layout {
+        Layout::Wide => put_pair(out, at, r),
+        Layout::Narrow => put_byte(out, at, r),
+    }
+}
+
+// A word's four bytes, little-endian.
+fn put_four_bytes(out: &mut [u8], at: usize, w: u32)
     requires { ⌜ at + 4 ≤ length (now out) ⌝ }
     ensures { λ _. ⌜ Puts (now (out .entry)) at (wordBytes w) (now (out .exit)) ⌝ }
 {
@@ -42,112 +62,198 @@ fn put_word(out: &mut [u8], at: usize, w: u32)
     out[at + 3] = (w / 16777216 % 256) as u8;
 }
 
+// ---- entries, where there is room
+// One without references has the same bytes in every layout.
+
+pub fn put_bare(out: &mut [u8], at: usize, k: u8)
+    requires { ⌜ at + 1 ≤ length (now out) ⌝ }
+    ensures { λ _. ⌜ ((len : ℕ) → Puts (now (out .entry)) at (encode len (Entry.Bare k)) (now (out .exit))) ⌝ }
+{
+    out[at] = k;
+}
+
+pub fn put_word(out: &mut [u8], at: usize, w: u32)
+    requires { ⌜ at + 5 ≤ length (now out) ⌝ }
+    ensures { λ _. ⌜ ((len : ℕ) → Puts (now (out .entry)) at (encode len (Entry.Word w)) (now (out .exit))) ⌝ }
+{
+    out[at] = 1;
+    put_four_bytes(out, at + 1, w);
+}
+
+pub fn put_cell(out: &mut [u8], at: usize, k: u8, c: u8)
+    requires { ⌜ at + 2 ≤ length (now out) ⌝ }
+    ensures { λ _. ⌜ ((len : ℕ) → Puts (now (out .entry)) at (encode len (Entry.Cell k c)) (now (out .exit))) ⌝ }
+{
+    out[at] = k;
+    out[at + 1] = c;
+}
+
+pub fn put_store(out: &mut [u8], layout: Layout, at: usize, k: u8, c: u8, a: u16)
+    requires { ⌜ at + (2 + refLength layout) ≤ length (now out) ⌝ }
+    ensures { λ _. ⌜ Puts (now (out .entry)) at (encode (refLength layout) (Entry.Store k c a)) (now (out .exit)) ⌝ }
+{
+    out[at] = k;
+    out[at + 1] = c;
+    put_ref(out, layout, at + 2, a);
+}
+
+pub fn put_one(out: &mut [u8], layout: Layout, at: usize, k: u8, a: u16)
+    requires { ⌜ at + (1 + refLength layout) ≤ length (now out) ⌝ }
+    ensures { λ _. ⌜ Puts (now (out .entry)) at (encode (refLength layout) (Entry.One k a)) (now (out .exit)) ⌝ }
+{
+    out[at] = k;
+    put_ref(out, layout, at + 1, a);
+}
+
+pub fn put_two(out: &mut [u8], layout: Layout, at: usize, k: u8, a: u16, b: u16)
+    requires { ⌜ at + (1 + refLength layout + refLength layout) ≤ length (now out) ⌝ }
+    ensures { λ _. ⌜ Puts (now (out .entry)) at (encode (refLength layout) (Entry.Two k a b)) (now (out .exit)) ⌝ }
+{
+    let n = ref_length(layout);
+    out[at] = k;
+    put_ref(out, layout, at + 1, a);
+    put_ref(out, layout, at + 1 + n, b);
+}
+
+pub fn put_three(out: &mut [u8], layout: Layout, at: usize, k: u8, a: u16, b: u16, c: u16)
+    requires { ⌜ at + (1 + refLength layout + refLength layout + refLength layout) ≤ length (now out) ⌝ }
+    ensures { λ _. ⌜ Puts (now (out .entry)) at (encode (refLength layout) (Entry.Three k a b c)) (now (out .exit)) ⌝ }
+{
+    let n = ref_length(layout);
+    out[at] = k;
+    put_ref(out, layout, at + 1, a);
+    put_ref(out, layout, at + 1 + n, b);
+    put_ref(out, layout, at + 1 + n + n, c);
+}
+
+pub fn put_four(out: &mut [u8], layout: Layout, at: usize, k: u8, a: u16, b: u16, c: u16, d: u16)
+    requires { ⌜ at + (1 + refLength layout + refLength layout + refLength layout + refLength layout) ≤ length (now out) ⌝ }
+    ensures { λ _. ⌜ Puts (now (out .entry)) at (encode (refLength layout) (Entry.Four k a b c d)) (now (out .exit)) ⌝ }
+{
+    let n = ref_length(layout);
+    out[at] = k;
+    put_ref(out, layout, at + 1, a);
+    put_ref(out, layout, at + 1 + n, b);
+    put_ref(out, layout, at + 1 + n + n, c);
+    put_ref(out, layout, at + 1 + n + n + n, d);
+}
+
+// ---- entries, as far as there is room
+
 pub fn write_bare(out: &mut [u8], at: usize, k: u8) -> Written
-    ensures { λ r. ⌜ Writes (now (out .entry)) at (Entry.Bare k) (now (out .exit)) r ⌝ }
+    ensures { λ r. ⌜ ((len : ℕ) → Writes len (now (out .entry)) at (Entry.Bare k) (now (out .exit)) r) ⌝ }
 {
     if left(out.len(), at) < 1 {
         return Written::NoRoom;
     }
-    out[at] = k;
+    put_bare(out, at, k);
     Written::Bytes(1)
 }
 
 pub fn write_word(out: &mut [u8], at: usize, w: u32) -> Written
-    ensures { λ r. ⌜ Writes (now (out .entry)) at (Entry.Word w) (now (out .exit)) r ⌝ }
+    ensures { λ r. ⌜ ((len : ℕ) → Writes len (now (out .entry)) at (Entry.Word w) (now (out .exit)) r) ⌝ }
 {
     if left(out.len(), at) < 5 {
         return Written::NoRoom;
     }
-    out[at] = 1;
-    put_word(out, at + 1, w);
+    put_word(out, at, w);
     Written::Bytes(5)
 }
 
-pub fn write_cell(out: &mut [u8], at: usize, k: u8, n: u8) -> Written
-    ensures { λ r. ⌜ Writes (now (out .entry)) at (Entry.Cell k n) (now (out .exit)) r ⌝ }
+pub fn write_cell(out: &mut [u8], at: usize, k: u8, c: u8) -> Written
+    ensures { λ r. ⌜ ((len : ℕ) → Writes len (now (out .entry)) at (Entry.Cell k c) (now (out .exit)) r) ⌝ }
 {
     if left(out.len(), at) < 2 {
         return Written::NoRoom;
     }
-    out[at] = k;
-    out[at + 1] = n;
+    put_cell(out, at, k, c);
     Written::Bytes(2)
 }
 
-pub fn write_store(out: &mut [u8], at: usize, k: u8, n: u8, a: u16) -> Written
-    ensures { λ r. ⌜ Writes (now (out .entry)) at (Entry.Store k n a) (now (out .exit)) r ⌝ }
+pub fn write_store(out: &mut [u8], layout: Layout, at: usize, k: u8, c: u8, a: u16) -> Written
+    ensures { λ r. ⌜ Writes (refLength layout) (now (out .entry)) at (Entry.Store k c a) (now (out .exit)) r ⌝ }
 {
-    if left(out.len(), at) < 4 {
+    let n = ref_length(layout);
+    if left(out.len(), at) < 2 + n {
         return Written::NoRoom;
     }
-    out[at] = k;
-    out[at + 1] = n;
-    put_ref(out, at + 2, a);
-    Written::Bytes(4)
+    put_store(out, layout, at, k, c, a);
+    Written::Bytes(2 + n)
 }
 
-pub fn write_one(out: &mut [u8], at: usize, k: u8, a: u16) -> Written
-    ensures { λ r. ⌜ Writes (now (out .entry)) at (Entry.One k a) (now (out .exit)) r ⌝ }
+pub fn write_one(out: &mut [u8], layout: Layout, at: usize, k: u8, a: u16) -> Written
+    ensures { λ r. ⌜ Writes (refLength layout) (now (out .entry)) at (Entry.One k a) (now (out .exit)) r ⌝ }
 {
-    if left(out.len(), at) < 3 {
+    let n = ref_length(layout);
+    if left(out.len(), at) < 1 + n {
         return Written::NoRoom;
     }
-    out[at] = k;
-    put_ref(out, at + 1, a);
-    Written::Bytes(3)
+    put_one(out, layout, at, k, a);
+    Written::Bytes(1 + n)
 }
 
-pub fn write_two(out: &mut [u8], at: usize, k: u8, a: u16, b: u16) -> Written
-    ensures { λ r. ⌜ Writes (now (out .entry)) at (Entry.Two k a b) (now (out .exit)) r ⌝ }
+pub fn write_two(out: &mut [u8], layout: Layout, at: usize, k: u8, a: u16, b: u16) -> Written
+    ensures { λ r. ⌜ Writes (refLength layout) (now (out .entry)) at (Entry.Two k a b) (now (out .exit)) r ⌝ }
 {
-    if left(out.len(), at) < 5 {
+    let n = ref_length(layout);
+    if left(out.len(), at) < 1 + n + n {
         return Written::NoRoom;
     }
-    out[at] = k;
-    put_ref(out, at + 1, a);
-    put_ref(out, at + 3, b);
-    Written::Bytes(5)
+    put_two(out, layout, at, k, a, b);
+    Written::Bytes(1 + n + n)
 }
 
-pub fn write_three(out: &mut [u8], at: usize, k: u8, a: u16, b: u16, c: u16) -> Written
-    ensures { λ r. ⌜ Writes (now (out .entry)) at (Entry.Three k a b c) (now (out .exit)) r ⌝ }
+pub fn write_three(
+    out: &mut [u8],
+    layout: Layout,
+    at: usize,
+    k: u8,
+    a: u16,
+    b: u16,
+    c: u16,
+) -> Written
+    ensures { λ r. ⌜ Writes (refLength layout) (now (out .entry)) at (Entry.Three k a b c) (now (out .exit)) r ⌝ }
 {
-    if left(out.len(), at) < 7 {
+    let n = ref_length(layout);
+    if left(out.len(), at) < 1 + n + n + n {
         return Written::NoRoom;
     }
-    out[at] = k;
-    put_ref(out, at + 1, a);
-    put_ref(out, at + 3, b);
-    put_ref(out, at + 5, c);
-    Written::Bytes(7)
+    put_three(out, layout, at, k, a, b, c);
+    Written::Bytes(1 + n + n + n)
 }
 
-pub fn write_four(out: &mut [u8], at: usize, k: u8, a: u16, b: u16, c: u16, d: u16) -> Written
-    ensures { λ r. ⌜ Writes (now (out .entry)) at (Entry.Four k a b c d) (now (out .exit)) r ⌝ }
+pub fn write_four(
+    out: &mut [u8],
+    layout: Layout,
+    at: usize,
+    k: u8,
+    a: u16,
+    b: u16,
+    c: u16,
+    d: u16,
+) -> Written
+    ensures { λ r. ⌜ Writes (refLength layout) (now (out .entry)) at (Entry.Four k a b c d) (now (out .exit)) r ⌝ }
 {
-    if left(out.len(), at) < 9 {
+    let n = ref_length(layout);
+    if left(out.len(), at) < 1 + n + n + n + n {
         return Written::NoRoom;
     }
-    out[at] = k;
-    put_ref(out, at + 1, a);
-    put_ref(out, at + 3, b);
-    put_ref(out, at + 5, c);
-    put_ref(out, at + 7, d);
-    Written::Bytes(9)
+    put_four(out, layout, at, k, a, b, c, d);
+    Written::Bytes(1 + n + n + n + n)
 }
 
 // An entry, from place at on.
-pub fn write_entry(out: &mut [u8], at: usize, e: Entry) -> Written
-    ensures { λ r. ⌜ Writes (now (out .entry)) at e (now (out .exit)) r ⌝ }
+pub fn write_entry(out: &mut [u8], layout: Layout, at: usize, e: Entry) -> Written
+    ensures { λ r. ⌜ Writes (refLength layout) (now (out .entry)) at e (now (out .exit)) r ⌝ }
 {
     match e {
         Entry::Bare(k) => write_bare(out, at, k),
         Entry::Word(w) => write_word(out, at, w),
-        Entry::Cell(k, n) => write_cell(out, at, k, n),
-        Entry::Store(k, n, a) => write_store(out, at, k, n, a),
-        Entry::One(k, a) => write_one(out, at, k, a),
-        Entry::Two(k, a, b) => write_two(out, at, k, a, b),
-        Entry::Three(k, a, b, c) => write_three(out, at, k, a, b, c),
-        Entry::Four(k, a, b, c, d) => write_four(out, at, k, a, b, c, d),
+        Entry::Cell(k, c) => write_cell(out, at, k, c),
+        Entry::Store(k, c, a) => write_store(out, layout, at, k, c, a),
+        Entry::One(k, a) => write_one(out, layout, at, k, a),
+        Entry::Two(k, a, b) => write_two(out, layout, at, k, a, b),
+        Entry::Three(k, a, b, c) => write_three(out, layout, at, k, a, b, c),
+        Entry::Four(k, a, b, c, d) => write_four(out, layout, at, k, a, b, c, d),
     }
 }

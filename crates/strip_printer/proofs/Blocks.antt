@@ -8,7 +8,7 @@ use borrow.Author.Tests.{leb-true, leb-false, eqb-true}
 use lib.Dec.{eqb, leb}
 use lib.ListN.{length, take, drop, length-append, length-drop}
 use lib.Seq.{take-all, take-append-le, drop-append-le, drop-append-add}
-use Rattle.translation.proofs.Fits.{sets-append}
+use Rattle.strip.proofs.Write.{sets-append}
 use Rattle.strip_printer.specs.declared.line.Printer.{Printer}
 use Rattle.strip_printer.specs.Line.{lineOf, answerTo, printerAfter, added, Printed, withLine, step, upTo, lines, noText, Stands, Block}
 

@@ -12,12 +12,12 @@ use lib.ListN.{length, take, getD, set, replicate, length-append, length-drop, l
 use lib.Seq.{sets, take-suc, length-take-le, length-sets}
 use Rattle.io.specs.Counts.{Counts}
 use Rattle.io.specs.Digits.{glyph, digits, Fewest}
+use Rattle.strip.proofs.Write.{sets-append}
 use Rattle.translation.specs.Strip.{Decision, refusalNumber, lengthOf, decision}
 use Rattle.translation.specs.declared.answer.Outcome.{Outcome}
 use Rattle.translation.specs.declared.answer.Outcome.the-variants.{Written, Refused}
 use Rattle.translation.specs.declared.answer.Refusal.{Refusal}
 use Rattle.translation.specs.declared.answer.Refusal.the-variants.{BadLength, UnknownKind, UnknownForm, SystemValueMov, ByteThree, NoRoom}
-use Rattle.translation.proofs.Fits.{sets-append}
 use Rattle.translation.proofs.Shape.{fits}
 use Rattle.strip_printer.specs.Line.{hexOf, spelled, decimalOf, refusedText, textOf}
 

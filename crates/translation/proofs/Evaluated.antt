@@ -9,7 +9,7 @@ use lib.ListN.{length, getD}
 use borrow.Author.Tests.{lt-ltb, eqb-false}
 use Rattle.strip.specs.declared.reader.Entry.{Entry}
 use Rattle.strip.specs.declared.reader.Entry.the-variants as Entry
-use Rattle.strip.specs.Entry.{refsOf}
+use Rattle.strip.specs.Entry.{refsOf, wide}
 use Rattle.strip.proofs.Tests.{and-left, and-right}
 use Rattle.evaluation.specs.declared.value.Value.{Value}
 use Rattle.evaluation.specs.declared.value.Value.the-variants.{Word, Truth}
@@ -187,9 +187,9 @@ module _ (cs : List ℕ) (k : ℕ) (i : Insn) (s : State) where
       rw (shape, w .goes rest, at-open cs s (w .values) (g .result) (guardHolds i s) (arm ++ (Entry.Bare 101 ∷ Entry.Bare 255 ∷ [])) (w .result))
       (after-open g (w .values) (guardHolds i s) (w .next) (omega (arith, w .next, next-bound (p (guard i) (guardNot i)) [] 0, guard-sized (guard i) (guardNot i) .bound)))
 
-  pub strip-evaluated : evaluated (strip k i) s cs ≡ cond (guardHolds i s) (stripAnswer s (sem cs (armOf k i) [] s)) (ends Done s)
+  pub strip-evaluated : evaluated wide (strip k i) s cs ≡ cond (guardHolds i s) (stripAnswer s (sem cs (armOf k i) [] s)) (ends Done s)
   unfolding stripsFrom entriesOf guarded begun xor
-  strip-evaluated = evaluated-strips s cs (strip k i) (entriesOf k i ∷ []) (strip-decodes k i) (strip-shape k i) ∙ go (eqb (guard i) 7) (guardNot i) refl refl
+  strip-evaluated = evaluated-strips s cs wide (strip k i) (entriesOf k i ∷ []) (strip-decodes k i) (strip-shape k i) ∙ go (eqb (guard i) 7) (guardNot i) refl refl
     where
       go : (always off : Bool) → eqb (guard i) 7 ≡ always → guardNot i ≡ off
           → restored s (onward (entriesFrom cs (mid s []) (cond always (cond off [] (build (armOf k i) [] 0 .entries)) (block (build (p (guard i) (guardNot i)) [] 0) (armOf k i)) ++ (Entry.Bare 255 ∷ []))) (λ u. ends Done u))

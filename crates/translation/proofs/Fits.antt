@@ -4,27 +4,24 @@ use mathlib.Core.Bool.{Bool, true, false}
 use mathlib.Core.List.{List, [], _∷_, _++_, append-assoc}
 use Prim.Native.Nat.{ℕ, zero, suc, _+_, _*_, _%_, _≤_, max}
 use native.Mathlib.Omega.{arith}
-use lib.ListN.{length, set, length-append}
+use lib.ListN.{length, length-append}
 use lib.Seq.{sets}
 use Rattle.strip.specs.declared.reader.Entry.{Entry}
 use Rattle.strip.specs.declared.reader.Entry.the-variants as Entry
-use Rattle.strip.specs.Entry.{kindOf, refsOf, immediateOf, encode}
+use Rattle.strip.specs.Entry.{kindOf, refsOf, wide, immediateOf, encode}
 use Rattle.strip.specs.Shape.{stripBytes}
+use Rattle.strip.proofs.Write.{sets-append}
 use Rattle.translation.specs.Code.{Code, ret, op, act, call, mark, ite, renamed, at as level, ats, Built, build}
 use Rattle.translation.specs.Emit.{Buffer, Value, wrote, made, raised, emits}
 
 -- ---- bytes
 
-pub bytes-append : (es fs : List Entry) → stripBytes (es ++ fs) ≡ stripBytes es ++ stripBytes fs
+pub bytes-append : (es fs : List Entry) → stripBytes wide (es ++ fs) ≡ stripBytes wide es ++ stripBytes wide fs
 unfolding stripBytes
 bytes-append [] fs = refl
-bytes-append (e ∷ es) fs = ap (λ (l : List ℕ). encode e ++ l) (bytes-append es fs) ∙ sym (append-assoc (encode e) (stripBytes es) (stripBytes fs))
+bytes-append (e ∷ es) fs = ap (λ (l : List ℕ). encode wide e ++ l) (bytes-append es fs) ∙ sym (append-assoc (encode wide e) (stripBytes wide es) (stripBytes wide fs))
 
-pub sets-append : (xs ys l : List ℕ) (i j : ℕ) → j ≡ i + length xs → sets (sets l i xs) j ys ≡ sets l i (xs ++ ys)
-sets-append [] ys l i j e = let h : j ≡ i = omega arith in rw h
-sets-append (x ∷ xs) ys l i j e = sets-append xs ys (set l i x) (suc i) j (omega arith)
-
--- how long an entry is does not hang on its references
+-- how long an entry is in the wide layout does not hang on its references
 abbrev pub entrySize : Entry → ℕ
 entrySize (Entry.Bare k) = 1
 entrySize (Entry.Word w) = 5
@@ -35,7 +32,7 @@ entrySize (Entry.Two k a b) = 5
 entrySize (Entry.Three k a b c) = 7
 entrySize (Entry.Four k a b c d) = 9
 
-pub size-is : (f : ℕ → ℕ) (e : Entry) → length (encode (renamed f e)) ≡ entrySize e
+pub size-is : (f : ℕ → ℕ) (e : Entry) → length (encode wide (renamed f e)) ≡ entrySize e
 unfolding encode kindOf immediateOf refsOf
 size-is f (Entry.Bare k) = refl
 size-is f (Entry.Word w) = refl
@@ -84,19 +81,19 @@ bounded (mark s u k) rs n = bounded k rs n
 bounded (ite true c d) rs n = omega (arith, bounded c rs n)
 bounded (ite false c d) rs n = omega (arith, bounded d rs n)
 
-pub roomy : (c : Code) (rs : List ℕ) (n : ℕ) → length (stripBytes (build c rs n .entries)) ≤ room c
+pub roomy : (c : Code) (rs : List ℕ) (n : ℕ) → length (stripBytes wide (build c rs n .entries)) ≤ room c
 unfolding build stripBytes
 roomy (ret l) rs n = omega arith
 roomy (op e k) rs n =
-    let t = stripBytes (build k (rs ++ (n ∷ [])) (suc n) .entries) in
-    omega (arith, length-append (encode (renamed (level rs) e)) t, size-is (level rs) e, roomy k (rs ++ (n ∷ [])) (suc n))
+    let t = stripBytes wide (build k (rs ++ (n ∷ [])) (suc n) .entries) in
+    omega (arith, length-append (encode wide (renamed (level rs) e)) t, size-is (level rs) e, roomy k (rs ++ (n ∷ [])) (suc n))
 roomy (act e k) rs n =
-    let t = stripBytes (build k rs n .entries) in
-    omega (arith, length-append (encode (renamed (level rs) e)) t, size-is (level rs) e, roomy k rs n)
+    let t = stripBytes wide (build k rs n .entries) in
+    omega (arith, length-append (encode wide (renamed (level rs) e)) t, size-is (level rs) e, roomy k rs n)
 roomy (call c ls k) rs n =
     let b = build c (ats rs ls) n in
     let d = build k (rs ++ (b .result ∷ [])) (b .next) in
-    let l : length (stripBytes (b .entries ++ d .entries)) ≡ length (stripBytes (b .entries)) + length (stripBytes (d .entries)) = rw (bytes-append (b .entries) (d .entries)) (length-append (stripBytes (b .entries)) (stripBytes (d .entries))) in
+    let l : length (stripBytes wide (b .entries ++ d .entries)) ≡ length (stripBytes wide (b .entries)) + length (stripBytes wide (d .entries)) = rw (bytes-append (b .entries) (d .entries)) (length-append (stripBytes wide (b .entries)) (stripBytes wide (d .entries))) in
     omega (arith, l, roomy c (ats rs ls) n, roomy k (rs ++ (b .result ∷ [])) (b .next))
 roomy (mark s u k) rs n = roomy k rs n
 roomy (ite true c d) rs n = omega (arith, roomy c rs n)
@@ -145,8 +142,8 @@ raisedMark b = record { slot = b .slot; need = b .need }
 -- ---- from the buffer b to m, with the entries es written
 
 pub record Fit (b : Buffer) (m : Value) (es : List Entry) (r n : ℕ) (k : Mark) : Type 0 where
-  pub list : m .buffer .list ≡ sets (b .list) (b .at) (stripBytes es)
-  pub at : m .buffer .at ≡ b .at + length (stripBytes es)
+  pub list : m .buffer .list ≡ sets (b .list) (b .at) (stripBytes wide es)
+  pub at : m .buffer .at ≡ b .at + length (stripBytes wide es)
   pub next : m .buffer .next ≡ n
   pub number : m .number ≡ r
   pub slot : m .buffer .slot ≡ k .slot
@@ -154,10 +151,10 @@ pub record Fit (b : Buffer) (m : Value) (es : List Entry) (r n : ℕ) (k : Mark)
 
 -- bytes, and then what follows them
 module _ (b : Buffer) (m : Value) (r n : ℕ) (k : Mark) (xs : List ℕ) (b′ : Buffer) (p : b′ .list ≡ sets (b .list) (b .at) xs) (q : b′ .at ≡ b .at + length xs) where
-  more : (es fs : List Entry) → stripBytes es ≡ xs ++ stripBytes fs → Fit b′ m fs r n k → Fit b m es r n k
+  more : (es fs : List Entry) → stripBytes wide es ≡ xs ++ stripBytes wide fs → Fit b′ m fs r n k → Fit b m es r n k
   more es fs h f = record {
-    list = f .list ∙ rw (p, h) (sets-append xs (stripBytes fs) (b .list) (b .at) (b′ .at) q);
-    at = omega (arith, f .at, q, length-append xs (stripBytes fs), ap length h);
+    list = f .list ∙ rw (p, h) (sets-append xs (stripBytes wide fs) (b .list) (b .at) (b′ .at) q);
+    at = omega (arith, f .at, q, length-append xs (stripBytes wide fs), ap length h);
     next = f .next;
     number = f .number;
     slot = f .slot;
@@ -170,35 +167,35 @@ moved : (k : Code) (rs : List ℕ) (b : Buffer) (m : Value) (r x n : ℕ) (w : M
     → Fit b m (build k (rs ++ (x ∷ [])) n .entries) (build k (rs ++ (x ∷ [])) n .result) (build k (rs ++ (x ∷ [])) n .next) (last k w)
 moved k rs b m r x n w e1 e2 e3 e4 f = let e : w ≡ raisedMark b = rw (e3, e4) in rw (← e1, ← e2, e) f
 
-pub fits : (c : Code) (rs : List ℕ) (b : Buffer) → b .at + length (stripBytes (build c rs (b .next) .entries)) ≤ 255 → build c rs (b .next) .next ≤ 255
+pub fits : (c : Code) (rs : List ℕ) (b : Buffer) → b .at + length (stripBytes wide (build c rs (b .next) .entries)) ≤ 255 → build c rs (b .next) .next ≤ 255
     → Fit b (emits c rs b) (build c rs (b .next) .entries) (build c rs (b .next) .result) (build c rs (b .next) .next) (last c (raisedMark b))
 unfolding emits made wrote raised build stripBytes
 fits (ret l) rs b h i = record { list = refl; at = omega arith; next = refl; number = refl; slot = refl; need = refl }
 fits (op e k) rs b h i =
-    let x = encode (renamed (level rs) e) in
+    let x = encode wide (renamed (level rs) e) in
     let B = build k (rs ++ (b .next ∷ [])) (suc (b .next)) in
-    let l : length (x ++ stripBytes (B .entries)) ≡ length x + length (stripBytes (B .entries)) = length-append x (stripBytes (B .entries)) in
+    let l : length (x ++ stripBytes wide (B .entries)) ≡ length x + length (stripBytes wide (B .entries)) = length-append x (stripBytes wide (B .entries)) in
     let n : (b .next + 1) % 256 ≡ suc (b .next) = omega (arith, next-more k (rs ++ (b .next ∷ [])) (suc (b .next))) in
     let a : (b .at + length x) % 256 ≡ b .at + length x = omega arith in
     let b′ : Buffer = record { list = sets (b .list) (b .at) x; at = b .at + length x; next = suc (b .next); slot = b .slot; need = b .need } in
     rw (n, a) (more b _ (B .result) (B .next) _ x b′ refl refl (renamed (level rs) e ∷ B .entries) (B .entries) refl (fits k (rs ++ (b .next ∷ [])) b′ (omega arith) i))
 fits (act e k) rs b h i =
-    let x = encode (renamed (level rs) e) in
+    let x = encode wide (renamed (level rs) e) in
     let B = build k rs (b .next) in
-    let l : length (x ++ stripBytes (B .entries)) ≡ length x + length (stripBytes (B .entries)) = length-append x (stripBytes (B .entries)) in
+    let l : length (x ++ stripBytes wide (B .entries)) ≡ length x + length (stripBytes wide (B .entries)) = length-append x (stripBytes wide (B .entries)) in
     let a : (b .at + length x) % 256 ≡ b .at + length x = omega arith in
     let b′ : Buffer = record { list = sets (b .list) (b .at) x; at = b .at + length x; next = b .next; slot = b .slot; need = b .need } in
     rw a (more b _ (B .result) (B .next) _ x b′ refl refl (renamed (level rs) e ∷ B .entries) (B .entries) refl (fits k rs b′ (omega arith) i))
 fits (call c ls k) rs b h i =
     let B = build c (ats rs ls) (b .next) in
     let D = build k (rs ++ (B .result ∷ [])) (B .next) in
-    let l : length (stripBytes (B .entries ++ D .entries)) ≡ length (stripBytes (B .entries)) + length (stripBytes (D .entries)) = rw (bytes-append (B .entries) (D .entries)) (length-append (stripBytes (B .entries)) (stripBytes (D .entries))) in
+    let l : length (stripBytes wide (B .entries ++ D .entries)) ≡ length (stripBytes wide (B .entries)) + length (stripBytes wide (D .entries)) = rw (bytes-append (B .entries) (D .entries)) (length-append (stripBytes wide (B .entries)) (stripBytes wide (D .entries))) in
     let f = fits c (ats rs ls) b (omega arith) (omega (arith, next-more k (rs ++ (B .result ∷ [])) (B .next))) in
     let m = emits c (ats rs ls) b in
-    let hb : m .buffer .at + length (stripBytes (build k (rs ++ (m .number ∷ [])) (m .buffer .next) .entries)) ≤ 255 = rw (f .number, f .next) (omega (arith, f .at)) in
+    let hb : m .buffer .at + length (stripBytes wide (build k (rs ++ (m .number ∷ [])) (m .buffer .next) .entries)) ≤ 255 = rw (f .number, f .next) (omega (arith, f .at)) in
     let hn : build k (rs ++ (m .number ∷ [])) (m .buffer .next) .next ≤ 255 = rw (f .number, f .next) i in
     let g = moved k rs (m .buffer) _ (m .number) (B .result) (B .next) (last c (raisedMark b)) (f .number) (f .next) (f .slot) (f .need) (fits k (rs ++ (m .number ∷ [])) (m .buffer) hb hn) in
-    more b _ (D .result) (D .next) _ (stripBytes (B .entries)) (m .buffer) (f .list) (f .at) (B .entries ++ D .entries) (D .entries) (bytes-append (B .entries) (D .entries)) g
+    more b _ (D .result) (D .next) _ (stripBytes wide (B .entries)) (m .buffer) (f .list) (f .at) (B .entries ++ D .entries) (D .entries) (bytes-append (B .entries) (D .entries)) g
 fits (mark s u k) rs b h i =
     let f = fits k rs (record { list = b .list; at = b .at; next = b .next; slot = s; need = u }) h i in
     record { list = f .list; at = f .at; next = f .next; number = f .number; slot = f .slot; need = f .need }

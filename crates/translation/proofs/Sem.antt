@@ -10,9 +10,8 @@ use lib.Seq.{getD-append-seam}
 use borrow.Author.Tests.{ltb-true, lt-ltb, eqb-true, not-true}
 use Rattle.strip.specs.declared.reader.Entry.{Entry}
 use Rattle.strip.specs.declared.reader.Entry.the-variants as Entry
-use Rattle.strip.specs.Entry.{refsOf}
+use Rattle.strip.specs.Entry.{refsOf, Each}
 use Rattle.strip.proofs.Tests.{and-left, and-right}
-use Rattle.strip.proofs.Run.{Each}
 use Rattle.evaluation.specs.declared.value.Value.{Value}
 use Rattle.evaluation.specs.declared.value.Value.the-variants.{Undefined, Word, Truth}
 use Rattle.evaluation.specs.declared.state.State.{State}

@@ -10,6 +10,7 @@ use lib.ListN.{length, getD, take, drop, length-append, length-drop}
 use lib.Seq.{take-at}
 use borrow.Author.Tests.{leb-true}
 use Rattle.strip.specs.declared.reader.Entry.the-variants as Entry
+use Rattle.strip.specs.Entry.{wide}
 use Rattle.strip.specs.Shape.{names, endsOnce, stripOk, decode, shapeOk, stripBytes, runBytes}
 use Rattle.strip.proofs.Tests.{and-left}
 use Rattle.strip.proofs.Run.{strips-run, strips-shape}
@@ -56,20 +57,20 @@ strip-well-formed k i = go (eqb (guard i) 7) (guardNot i)
         (omega (arith, bounded c [] 0, guard-sized (guard i) (guardNot i) .bound, bounded (armOf k i) [] (g .next), arm-sized k i .bound))
 
 -- its bytes pass the shape test, and reading them finds its entries
-strip-run : (k : ℕ) (i : Insn) → strip k i ≡ runBytes (entriesOf k i ∷ [])
+strip-run : (k : ℕ) (i : Insn) → strip k i ≡ runBytes wide (entriesOf k i ∷ [])
 unfolding strip runBytes
-strip-run k i = sym (append-nil (stripBytes (entriesOf k i)))
+strip-run k i = sym (append-nil (stripBytes wide (entriesOf k i)))
 
-pub strip-shape : (k : ℕ) (i : Insn) → shapeOk (strip k i) ≡ true
+pub strip-shape : (k : ℕ) (i : Insn) → shapeOk wide (strip k i) ≡ true
 strip-shape k i =
     let o = strip-well-formed k i in
-    rw (strip-run k i) (strips-shape (entriesOf k i ∷ []) (o .formed, tt) (rw (o .passes) refl))
+    rw (strip-run k i) (strips-shape wide (entriesOf k i ∷ []) (o .formed, tt) (rw (o .passes) refl))
 
-pub strip-decodes : (k : ℕ) (i : Insn) → decode (strip k i) ≡ some (entriesOf k i ∷ [])
+pub strip-decodes : (k : ℕ) (i : Insn) → decode wide (strip k i) ≡ some (entriesOf k i ∷ [])
 unfolding stripOk
 strip-decodes k i =
     let o = strip-well-formed k i in
-    rw (strip-run k i) (strips-run (entriesOf k i ∷ []) (record { ends = and-left (endsOnce (entriesOf k i)) _ (o .passes); formed = o .formed }, tt))
+    rw (strip-run k i) (strips-run wide (entriesOf k i ∷ []) (record { ends = and-left (endsOnce (entriesOf k i)) _ (o .passes); formed = o .formed }, tt))
 
 -- ---- for every record, marks and room
 
@@ -113,7 +114,7 @@ accepted l m out n h =
 pub accepted-strip : (l m out : List ℕ) (n : ℕ) → decision l m out .outcome ≡ Written n → take n (decision l m out .out) ≡ strip (getD l 0 0) (insnOf l)
 accepted-strip l m out n h = let a = accepted l m out n h .1 in rw (a .out) (take-at (strip (getD l 0 0) (insnOf l)) (drop n out) n (sym (a .size)))
 
-pub accepted-shape : (l m out : List ℕ) (n : ℕ) → decision l m out .outcome ≡ Written n → shapeOk (take n (decision l m out .out)) ≡ true
+pub accepted-shape : (l m out : List ℕ) (n : ℕ) → decision l m out .outcome ≡ Written n → shapeOk wide (take n (decision l m out .out)) ≡ true
 accepted-shape l m out n h = rw (accepted-strip l m out n h) (strip-shape (getD l 0 0) (insnOf l))
 
 -- an answer keeps the room's length, and what it writes fits

@@ -1,8 +1,8 @@
 -- Strips around well-formed entries: alone before the end, or in a block after a guard.
 use mathlib.Core.Path.{_≡_, refl, sym, ap, _∙_}
-use mathlib.Core.Bool.{Bool, true, false, cond, not, _&&_, false≢true}
+use mathlib.Core.Bool.{Bool, true, false, cond, not, _&&_}
 use mathlib.Core.List.{List, [], _∷_, _++_, append-assoc, append-nil}
-use Prim.Native.Nat.{ℕ, zero, suc, _+_, _≤_, _<_}
+use Prim.Native.Nat.{ℕ, suc, _+_, _^_, _≤_, _<_}
 use native.Mathlib.Omega.{arith}
 use lib.Dec.{eqb, ltb, leb}
 use lib.ListN.{length, getD, length-append}
@@ -12,11 +12,11 @@ use Rattle.strip.specs.declared.format.Body.the-variants as Body
 use Rattle.strip.specs.declared.reader.Entry.{Entry}
 use Rattle.strip.specs.declared.reader.Entry.the-variants as Entry
 use Rattle.strip.specs.Format.{Format, formatOf}
-use Rattle.strip.specs.Entry.{kindOf, cellsOf, refsOf, bodyOf, Bounded, Formed}
+use Rattle.strip.specs.Entry.{kindOf, cellsOf, refsOf, bodyOf, wide, Each, Bounded, Formed}
 use Rattle.strip.specs.Shape.{all, count, isOpen, isClose, isEnd, endsOnce, cellIn, cellOk, makes, names, refsPass, refsOk, endAlone, closesLast, blocksOk, stripOk}
 use Rattle.strip.proofs.Tests.{and-left, and-right}
 use Rattle.strip.proofs.Table.{every-format, bodyNumber}
-use Rattle.strip.proofs.Run.{Each, all-append}
+use Rattle.strip.proofs.Run.{all-append, refs-fit}
 use Rattle.translation.proofs.Typed.{inner, bodied, made, refs-append}
 use Rattle.translation.proofs.InRange.{fits, wordIn}
 
@@ -48,47 +48,23 @@ cell-lt k n h =
     let l : n < formatOf k .limit = ltb-true n (formatOf k .limit) (and-right (leb (formatOf k .least) n) _ (and-left (cellIn (formatOf k) n) _ h)) in
     omega (arith, limit-le k)
 
--- references that pass name lower values
-refs-below : (before : List ℕ) (n : ℕ) → length before ≤ n → (ks rs : List ℕ) → refsPass (names before) ks rs ≡ true → Each (λ r. r < n) rs
-unfolding refsPass names
-refs-below before n l [] [] h = tt
-refs-below before n l [] (r ∷ rs) h = absurd (false≢true h)
-refs-below before n l (k ∷ ks) [] h = tt
-refs-below before n l (k ∷ ks) (r ∷ rs) h =
-    let p = ltb-true r (length before) (and-left (ltb r (length before)) _ (and-left (names before k r) _ h)) in
-    (omega arith, refs-below before n l ks rs (and-right (names before k r) _ h))
+bounded : (e : Entry) → fits e ≡ true → Bounded e
+unfolding cellOk cellsOf kindOf
+bounded (Entry.Bare k) h = tt
+bounded (Entry.Word w) h = ltb-true w 4294967296 (and-left (ltb w 4294967296) _ h)
+bounded (Entry.Cell k n) h = cell-lt k n h
+bounded (Entry.Store k n r) h = cell-lt k n h
+bounded (Entry.One k a) h = tt
+bounded (Entry.Two k a b) h = tt
+bounded (Entry.Three k a b c) h = tt
+bounded (Entry.Four k a b c d) h = tt
 
-bounded : (e : Entry) → fits e ≡ true → Each (λ r. r < 65536) (refsOf e) → Bounded e
-unfolding refsOf cellOk cellsOf kindOf
-bounded (Entry.Bare k) h r = tt
-bounded (Entry.Word w) h r = ltb-true w 4294967296 (and-left (ltb w 4294967296) _ h)
-bounded (Entry.Cell k n) h r = cell-lt k n h
-bounded (Entry.Store k n v) h r = (cell-lt k n h, r .0)
-bounded (Entry.One k a) h r = r .0
-bounded (Entry.Two k a b) h r = (r .0, r .1 .0)
-bounded (Entry.Three k a b c) h r = (r .0, r .1 .0, r .1 .1 .0)
-bounded (Entry.Four k a b c d) h r = (r .0, r .1 .0, r .1 .1 .0, r .1 .1 .1 .0)
-
-makes-at-most : (before : List ℕ) (e : Entry) → length (before ++ makes e) ≤ suc (length before)
-unfolding makes
-makes-at-most before e = rw (length-append before (makes e)) (go (eqb (formatOf (kindOf e) .result) 0))
-  where
-    go : (b : Bool) → length before + length (cond b [] (formatOf (kindOf e) .result ∷ [])) ≤ suc (length before)
-    go true = omega arith
-    go false = omega arith
-
-pub each-formed : (es : List Entry) (before : List ℕ) → length before + length es ≤ 65536 → all bodied es ≡ true → all fits es ≡ true → refsOk before es ≡ true → Each Formed es
-unfolding refsOk
-each-formed [] before l b f r = tt
-each-formed (e ∷ es) before l b f r =
-    let pass = refsPass (names before) (formatOf (kindOf e) .operands) (refsOf e) in
-    let below = refs-below before 65536 (omega arith) (formatOf (kindOf e) .operands) (refsOf e) (and-left pass _ r) in (
-      record {
-        body = body-same (formatOf (kindOf e) .body) (bodyOf e) (and-left (bodied e) _ b);
-        bounded = bounded e (and-left (fits e) _ f) below;
-      },
-      each-formed es (before ++ makes e) (omega (arith, makes-at-most before e)) (and-right (bodied e) _ b) (and-right (fits e) _ f) (and-right pass _ r),
-    )
+pub each-formed : (es : List Entry) → all bodied es ≡ true → all fits es ≡ true → Each (λ e. Each (λ r. r < 256 ^ wide) (refsOf e)) es → Each (Formed wide) es
+each-formed [] b f r = tt
+each-formed (e ∷ es) b f r = (
+  record { body = body-same (formatOf (kindOf e) .body) (bodyOf e) (and-left (bodied e) _ b); bounded = bounded e (and-left (fits e) _ f); refs = r .0 },
+  each-formed es (and-right (bodied e) _ b) (and-right (fits e) _ f) (r .1),
+)
 
 -- ---- lists of entries
 
@@ -133,13 +109,13 @@ pub record Piece (before : List ℕ) (es : List Entry) : Type 0 where
 -- a strip that passes the test, of entries that bytes can hold
 pub record WellFormed (es : List Entry) : Type 0 where
   pub passes : stripOk es ≡ true
-  pub formed : Each Formed es
+  pub formed : Each (Formed wide) es
 
 well-formed : (es : List Entry) → endsOnce es ≡ true → length es ≤ 64 → all bodied es ≡ true → all fits es ≡ true → refsOk [] es ≡ true → blocksOk es ≡ true → WellFormed es
 unfolding stripOk
 well-formed es e l b f r k = record {
   passes = rw (e, le-leb (length es) 64 l, all-weaken fits (λ e. cellOk (formatOf (kindOf e)) e) (λ e h. and-right (wordIn e) _ h) es f, r, k) refl;
-  formed = each-formed es [] (omega arith) b f r;
+  formed = each-formed es b f (refs-fit (256 ^ wide) es [] (omega arith) r);
 }
 
 -- entries, then the end

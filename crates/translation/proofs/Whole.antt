@@ -10,8 +10,9 @@ use lib.Seq.{sets, sets-eq, paste, paste-suc, take-append-seam}
 use borrow.Author.Tests.{le-leb, lt-leb}
 use Rattle.strip.specs.declared.reader.Entry.{Entry}
 use Rattle.strip.specs.declared.reader.Entry.the-variants as Entry
-use Rattle.strip.specs.Entry.{kindOf, refsOf, immediateOf, encode}
+use Rattle.strip.specs.Entry.{kindOf, refsOf, wide, immediateOf, encode}
 use Rattle.strip.specs.Shape.{stripBytes}
+use Rattle.strip.proofs.Write.{sets-append}
 use Rattle.translation.specs.Insn.{Insn, bits, bit}
 use Rattle.translation.specs.Code.{Code, Built, build}
 use Rattle.translation.specs.Helpers.{p}
@@ -23,7 +24,7 @@ use Rattle.translation.specs.Whole.{writes}
 use Rattle.translation.specs.declared.writer.Pos.{Pos}
 use Rattle.translation.specs.declared.answer.Outcome.the-variants.{Written}
 use Rattle.translation.specs.declared.answer.Refusal.the-variants.{NoRoom}
-use Rattle.translation.proofs.Fits.{bytes-append, sets-append, roomy, next-bound, Mark, last, raisedMark, Fit, fits}
+use Rattle.translation.proofs.Fits.{bytes-append, roomy, next-bound, Mark, last, raisedMark, Fit, fits}
 use Rattle.translation.proofs.Arms.{arm-sized, guard-sized}
 use Rattle.translation.proofs.Marked.{clear, none-used, raise-none, one-used}
 
@@ -32,17 +33,17 @@ pub record Holds (l : List ℕ) (b : Buffer) (xs : List ℕ) : Type 0 where
   pub list : b .list ≡ sets l 0 xs
   pub at : b .at ≡ length xs
 
-hold-entry : (l xs : List ℕ) (b : Buffer) (e : Entry) → Holds l b xs → length xs + length (encode e) ≤ 255 → Holds l (wrote e b) (xs ++ encode e)
+hold-entry : (l xs : List ℕ) (b : Buffer) (e : Entry) → Holds l b xs → length xs + length (encode wide e) ≤ 255 → Holds l (wrote e b) (xs ++ encode wide e)
 unfolding wrote
 hold-entry l xs b e h k = record {
-  list = rw (h .list) (sets-append xs (encode e) l 0 (b .at) (omega (arith, h .at)));
-  at = omega (arith, h .at, length-append xs (encode e));
+  list = rw (h .list) (sets-append xs (encode wide e) l 0 (b .at) (omega (arith, h .at)));
+  at = omega (arith, h .at, length-append xs (encode wide e));
 }
 
-hold-fit : (l xs : List ℕ) (b : Buffer) (m : Value) (es : List Entry) (r n : ℕ) (k : Mark) → Holds l b xs → Fit b m es r n k → Holds l (m .buffer) (xs ++ stripBytes es)
+hold-fit : (l xs : List ℕ) (b : Buffer) (m : Value) (es : List Entry) (r n : ℕ) (k : Mark) → Holds l b xs → Fit b m es r n k → Holds l (m .buffer) (xs ++ stripBytes wide es)
 hold-fit l xs b m es r n k h f = record {
-  list = f .list ∙ rw (h .list) (sets-append xs (stripBytes es) l 0 (b .at) (omega (arith, h .at)));
-  at = omega (arith, f .at, h .at, length-append xs (stripBytes es));
+  list = f .list ∙ rw (h .list) (sets-append xs (stripBytes wide es) l 0 (b .at) (omega (arith, h .at)));
+  at = omega (arith, f .at, h .at, length-append xs (stripBytes wide es));
 }
 
 abbrev pub start : List ℕ → Buffer
@@ -66,21 +67,21 @@ wrote-next : (e : Entry) (b : Buffer) → wrote e b .next ≡ b .next
 unfolding wrote
 wrote-next e b = refl
 
-bare-size : (k : ℕ) → length (encode (Entry.Bare k)) ≡ 1
+bare-size : (k : ℕ) → length (encode wide (Entry.Bare k)) ≡ 1
 unfolding encode kindOf immediateOf refsOf
 bare-size k = refl
 
-open-size : (a : ℕ) → length (encode (Entry.One 100 a)) ≡ 3
+open-size : (a : ℕ) → length (encode wide (Entry.One 100 a)) ≡ 3
 unfolding encode kindOf immediateOf refsOf
 open-size a = refl
 
-last-bytes : (es : List Entry) (e : Entry) → stripBytes (es ++ (e ∷ [])) ≡ stripBytes es ++ encode e
+last-bytes : (es : List Entry) (e : Entry) → stripBytes wide (es ++ (e ∷ [])) ≡ stripBytes wide es ++ encode wide e
 unfolding stripBytes
-last-bytes es e = bytes-append es (e ∷ []) ∙ ap (λ (x : List ℕ). stripBytes es ++ x) (append-nil (encode e))
+last-bytes es e = bytes-append es (e ∷ []) ∙ ap (λ (x : List ℕ). stripBytes wide es ++ x) (append-nil (encode wide e))
 
-end-bytes : stripBytes (Entry.Bare 255 ∷ []) ≡ encode (Entry.Bare 255)
+end-bytes : stripBytes wide (Entry.Bare 255 ∷ []) ≡ encode wide (Entry.Bare 255)
 unfolding stripBytes
-end-bytes = append-nil (encode (Entry.Bare 255))
+end-bytes = append-nil (encode wide (Entry.Bare 255))
 
 module _ (k : ℕ) (i : Insn) (l : List ℕ) where
   g : Built
@@ -99,45 +100,45 @@ module _ (k : ℕ) (i : Insn) (l : List ℕ) where
       fits (armOf k i) [] b (omega (arith, h .at, roomy (armOf k i) [] (b .next), arm-sized k i .room))
       (omega (arith, next-bound (armOf k i) [] (b .next), arm-sized k i .bound))
 
-  never : Holding l (wrote (Entry.Bare 255) (start l)) (encode (Entry.Bare 255)) (λ m. m)
+  never : Holding l (wrote (Entry.Bare 255) (start l)) (encode wide (Entry.Bare 255)) (λ m. m)
   unfolding wrote
   never = record { holds = record { list = refl; at = omega (arith, bare-size 255) }; short = omega (arith, bare-size 255); mark = raise-none }
 
-  plain : Holding l (wrote (Entry.Bare 255) (emits (armOf k i) [] (start l) .buffer)) (stripBytes (arm 0) ++ encode (Entry.Bare 255)) (uses (armOf k i))
+  plain : Holding l (wrote (Entry.Bare 255) (emits (armOf k i) [] (start l) .buffer)) (stripBytes wide (arm 0) ++ encode wide (Entry.Bare 255)) (uses (armOf k i))
   unfolding arm
   plain =
       let f = arm-fit (start l) [] at-start (omega arith) (omega arith) in
-      let xs = stripBytes (build (armOf k i) [] 0 .entries) in
+      let xs = stripBytes wide (build (armOf k i) [] 0 .entries) in
       let z : length xs ≤ 245 = omega (arith, roomy (armOf k i) [] 0, arm-sized k i .room) in
       record {
         holds = hold-entry l xs _ (Entry.Bare 255) (hold-fit l [] (start l) _ _ _ _ _ at-start f) (omega (arith, bare-size 255));
-        short = omega (arith, length-append xs (encode (Entry.Bare 255)), bare-size 255);
+        short = omega (arith, length-append xs (encode wide (Entry.Bare 255)), bare-size 255);
         mark = λ m. rw (wrote-slot, wrote-need, f .slot, f .need) (sym (one-used (armOf k i) m (arm-sized k i .marks)));
       }
 
   -- after the guard and its open
-  opened : (m : Value) → Holds l (m .buffer) (stripBytes (g .entries)) → m .number ≡ g .result → m .buffer .next ≡ g .next → raisedMark (m .buffer) ≡ clear
+  opened : (m : Value) → Holds l (m .buffer) (stripBytes wide (g .entries)) → m .number ≡ g .result → m .buffer .next ≡ g .next → raisedMark (m .buffer) ≡ clear
       → Holding l (wrote (Entry.Bare 255) (wrote (Entry.Bare 101) (emits (armOf k i) [] (wrote (Entry.One 100 (m .number)) (m .buffer)) .buffer)))
-      ((((stripBytes (g .entries) ++ encode (Entry.One 100 (g .result))) ++ stripBytes (arm (g .next))) ++ encode (Entry.Bare 101)) ++ encode (Entry.Bare 255)) (uses (armOf k i))
+      ((((stripBytes wide (g .entries) ++ encode wide (Entry.One 100 (g .result))) ++ stripBytes wide (arm (g .next))) ++ encode wide (Entry.Bare 101)) ++ encode wide (Entry.Bare 255)) (uses (armOf k i))
   unfolding g arm
   opened m h er en em =
-      let gr : length (stripBytes (g .entries)) ≤ 5 = omega (arith, roomy (p (guard i) (guardNot i)) [] 0, guard-sized (guard i) (guardNot i) .room) in
+      let gr : length (stripBytes wide (g .entries)) ≤ 5 = omega (arith, roomy (p (guard i) (guardNot i)) [] 0, guard-sized (guard i) (guardNot i) .room) in
       let gb : g .next ≤ 2 = omega (arith, next-bound (p (guard i) (guardNot i)) [] 0, guard-sized (guard i) (guardNot i) .bound) in
       let e = Entry.One 100 (m .number) in
       let o = wrote e (m .buffer) in
-      let x0 = stripBytes (g .entries) ++ encode e in
-      let ho = hold-entry l (stripBytes (g .entries)) (m .buffer) e h (omega (arith, open-size (m .number))) in
+      let x0 = stripBytes wide (g .entries) ++ encode wide e in
+      let ho = hold-entry l (stripBytes wide (g .entries)) (m .buffer) e h (omega (arith, open-size (m .number))) in
       let on : o .next ≡ g .next = wrote-next e (m .buffer) ∙ en in
       let om : raisedMark o ≡ clear = rw (wrote-slot, wrote-need) em in
-      let lo : length x0 ≤ 8 = omega (arith, length-append (stripBytes (g .entries)) (encode e), open-size (m .number)) in
+      let lo : length x0 ≤ 8 = omega (arith, length-append (stripBytes wide (g .entries)) (encode wide e), open-size (m .number)) in
       let f = arm-fit o x0 ho lo (omega arith) in
-      let x1 = stripBytes (build (armOf k i) [] (o .next) .entries) in
+      let x1 = stripBytes wide (build (armOf k i) [] (o .next) .entries) in
       let z : length x1 ≤ 245 = omega (arith, roomy (armOf k i) [] (o .next), arm-sized k i .room) in
       let hf = hold-fit l x0 o _ _ _ _ _ ho f in
       let l1 : length (x0 ++ x1) ≤ 253 = omega (arith, length-append x0 x1) in
       let hc = hold-entry l (x0 ++ x1) _ (Entry.Bare 101) hf (omega (arith, bare-size 101)) in
-      let x2 = (x0 ++ x1) ++ encode (Entry.Bare 101) in
-      let l2 : length x2 ≤ 254 = omega (arith, length-append (x0 ++ x1) (encode (Entry.Bare 101)), bare-size 101) in
+      let x2 = (x0 ++ x1) ++ encode wide (Entry.Bare 101) in
+      let l2 : length x2 ≤ 254 = omega (arith, length-append (x0 ++ x1) (encode wide (Entry.Bare 101)), bare-size 101) in
       let he = hold-entry l x2 _ (Entry.Bare 255) hc (omega (arith, bare-size 255)) in
       let M = emits (armOf k i) [] o .buffer in
       let sl = wrote-slot (Entry.Bare 255) (wrote (Entry.Bare 101) M) ∙ wrote-slot (Entry.Bare 101) M ∙ f .slot ∙ ap (λ (w : Mark). last (armOf k i) w .slot) om in
@@ -145,13 +146,13 @@ module _ (k : ℕ) (i : Insn) (l : List ℕ) where
       rw (← er, ← on)
       (record {
         holds = he;
-        short = omega (arith, length-append x2 (encode (Entry.Bare 255)), bare-size 255);
+        short = omega (arith, length-append x2 (encode wide (Entry.Bare 255)), bare-size 255);
         mark = λ m. rw (sl, ne) (sym (one-used (armOf k i) m (arm-sized k i .marks)));
       })
 
   inBlock : Holding l
       (wrote (Entry.Bare 255) (wrote (Entry.Bare 101) (emits (armOf k i) [] (wrote (Entry.One 100 (emits (p (guard i) (guardNot i)) [] (start l) .number)) (emits (p (guard i) (guardNot i)) [] (start l) .buffer)) .buffer)))
-      ((((stripBytes (g .entries) ++ encode (Entry.One 100 (g .result))) ++ stripBytes (arm (g .next))) ++ encode (Entry.Bare 101)) ++ encode (Entry.Bare 255)) (uses (armOf k i))
+      ((((stripBytes wide (g .entries) ++ encode wide (Entry.One 100 (g .result))) ++ stripBytes wide (arm (g .next))) ++ encode wide (Entry.Bare 101)) ++ encode wide (Entry.Bare 255)) (uses (armOf k i))
   unfolding g
   inBlock =
       let c = p (guard i) (guardNot i) in
@@ -159,17 +160,17 @@ module _ (k : ℕ) (i : Insn) (l : List ℕ) where
       let e : raisedMark (emits c [] (start l) .buffer) ≡ last c clear = rw (f .slot, f .need) in
       opened (emits c [] (start l)) (hold-fit l [] (start l) _ _ _ _ _ at-start f) (f .number) (f .next) (e ∙ none-used c [] clear (let z = guard-sized (guard i) (guardNot i) .marks in omega arith) .1)
 
-  block-bytes : stripBytes (block g (armOf k i) ++ (Entry.Bare 255 ∷ [])) ≡ (((stripBytes (g .entries) ++ encode (Entry.One 100 (g .result))) ++ stripBytes (arm (g .next))) ++ encode (Entry.Bare 101)) ++ encode (Entry.Bare 255)
+  block-bytes : stripBytes wide (block g (armOf k i) ++ (Entry.Bare 255 ∷ [])) ≡ (((stripBytes wide (g .entries) ++ encode wide (Entry.One 100 (g .result))) ++ stripBytes wide (arm (g .next))) ++ encode wide (Entry.Bare 101)) ++ encode wide (Entry.Bare 255)
   unfolding arm stripBytes
   block-bytes =
       let o : Entry = Entry.One 100 (g .result) in
       let es = build (armOf k i) [] (g .next) .entries in
       last-bytes (block g (armOf k i)) (Entry.Bare 255)
-      ∙ ap (λ (x : List ℕ). x ++ encode (Entry.Bare 255))
+      ∙ ap (λ (x : List ℕ). x ++ encode wide (Entry.Bare 255))
       (bytes-append (g .entries) (o ∷ (es ++ (Entry.Bare 101 ∷ [])))
-      ∙ ap (λ (x : List ℕ). stripBytes (g .entries) ++ (encode o ++ x)) (last-bytes es (Entry.Bare 101))
-      ∙ sym (append-assoc (stripBytes (g .entries)) (encode o) (stripBytes es ++ encode (Entry.Bare 101)))
-      ∙ sym (append-assoc (stripBytes (g .entries) ++ encode o) (stripBytes es) (encode (Entry.Bare 101))))
+      ∙ ap (λ (x : List ℕ). stripBytes wide (g .entries) ++ (encode wide o ++ x)) (last-bytes es (Entry.Bare 101))
+      ∙ sym (append-assoc (stripBytes wide (g .entries)) (encode wide o) (stripBytes wide es ++ encode wide (Entry.Bare 101)))
+      ∙ sym (append-assoc (stripBytes wide (g .entries) ++ encode wide o) (stripBytes wide es) (encode wide (Entry.Bare 101))))
 
   pub whole : Holding l (writes k i (start l)) (strip k i) (marked k i)
   unfolding writes strip entriesOf marked guarded g arm
@@ -178,7 +179,7 @@ module _ (k : ℕ) (i : Insn) (l : List ℕ) where
       go : (x n : Bool) → Holding l
           (cond x (cond n (wrote (Entry.Bare 255) (start l)) (wrote (Entry.Bare 255) (emits (armOf k i) [] (start l) .buffer)))
           (wrote (Entry.Bare 255) (wrote (Entry.Bare 101) (emits (armOf k i) [] (wrote (Entry.One 100 (emits (p (guard i) (guardNot i)) [] (start l) .number)) (emits (p (guard i) (guardNot i)) [] (start l) .buffer)) .buffer))))
-          (stripBytes (cond x (cond n [] (build (armOf k i) [] 0 .entries)) (block (build (p (guard i) (guardNot i)) [] 0) (armOf k i)) ++ (Entry.Bare 255 ∷ [])))
+          (stripBytes wide (cond x (cond n [] (build (armOf k i) [] 0 .entries)) (block (build (p (guard i) (guardNot i)) [] 0) (armOf k i)) ++ (Entry.Bare 255 ∷ [])))
           (λ m. cond (x && n) m (uses (armOf k i) m))
       go true true = rw end-bytes never
       go true false = rw (last-bytes (build (armOf k i) [] 0 .entries) (Entry.Bare 255)) plain

@@ -8,7 +8,7 @@ use lib.Pow.{pow-lt}
 use lib.ListN.{length}
 use Rattle.strip.specs.declared.reader.Entry.{Entry}
 use Rattle.strip.specs.declared.writer.Written.{Written}
-use Rattle.strip.specs.Entry.{encode}
+use Rattle.strip.specs.Entry.{wide, encode}
 use Rattle.strip.specs.Write as S
 use Rattle.strip.proofs.Write.{in-room}
 use Rattle.translation.specs.declared.writer.Pos.{Pos}
@@ -16,14 +16,14 @@ use Rattle.translation.specs.declared.writer.Made.{Made}
 use Rattle.translation.specs.Emit.{wrote, made, view, viewMade, Makes, Writes}
 
 -- where strip's writer finds room and the position is handed on, the entry is made
-pub makes : {l′ : List ℕ} {m : Made} {r : Written} (l : List ℕ) (p : Pos) (e : Entry) → p .at + length (encode e) ≤ length l → S.Writes l (p .at) e l′ r
-    → m ≡ record { pos = record { words = p .words; at = (p .at + length (encode e)) % 256; values = (p .values + 1) % 256; slot = p .slot }; value = p .values }
+pub makes : {l′ : List ℕ} {m : Made} {r : Written} (l : List ℕ) (p : Pos) (e : Entry) → p .at + length (encode wide e) ≤ length l → S.Writes wide l (p .at) e l′ r
+    → m ≡ record { pos = record { words = p .words; at = (p .at + length (encode wide e)) % 256; values = (p .values + 1) % 256; slot = p .slot }; value = p .values }
     → Makes (view l p) (viewMade l′ m) e
 unfolding made view
 makes l p e room w h = record { is = rw (in-room w room, h) }
 
-pub writes : {l′ : List ℕ} {q : Pos} {r : Written} (l : List ℕ) (p : Pos) (e : Entry) → p .at + length (encode e) ≤ length l → S.Writes l (p .at) e l′ r
-    → q ≡ record { words = p .words; at = (p .at + length (encode e)) % 256; values = p .values; slot = p .slot } → Writes (view l p) (view l′ q) e
+pub writes : {l′ : List ℕ} {q : Pos} {r : Written} (l : List ℕ) (p : Pos) (e : Entry) → p .at + length (encode wide e) ≤ length l → S.Writes wide l (p .at) e l′ r
+    → q ≡ record { words = p .words; at = (p .at + length (encode wide e)) % 256; values = p .values; slot = p .slot } → Writes (view l p) (view l′ q) e
 unfolding wrote view
 writes l p e room w h = record { is = rw (in-room w room, h) }
 

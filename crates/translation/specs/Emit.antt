@@ -8,7 +8,7 @@ use lib.ListN.{length}
 use lib.Seq.{sets}
 use Rattle.strip.specs.declared.reader.Entry.{Entry}
 use Rattle.strip.specs.declared.reader.Entry.the-variants as Entry
-use Rattle.strip.specs.Entry.{encode}
+use Rattle.strip.specs.Entry.{wide, encode}
 use Rattle.translation.specs.declared.writer.Pos.{Pos}
 use Rattle.translation.specs.declared.writer.Made.{Made}
 use Rattle.translation.specs.declared.helper.Carry.{Carry}
@@ -33,12 +33,12 @@ pub record Value : Type 0 where
 
 -- after an entry that makes no value, and after one that makes the next
 unfoldable pub wrote : Entry → Buffer → Buffer
-wrote e b = record { list = sets (b .list) (b .at) (encode e); at = (b .at + length (encode e)) % 256; next = b .next; slot = b .slot; need = b .need }
+wrote e b = record { list = sets (b .list) (b .at) (encode wide e); at = (b .at + length (encode wide e)) % 256; next = b .next; slot = b .slot; need = b .need }
 
 unfoldable pub made : Entry → Buffer → Value
 made e b =
     record {
-      buffer = record { list = sets (b .list) (b .at) (encode e); at = (b .at + length (encode e)) % 256; next = (b .next + 1) % 256; slot = b .slot; need = b .need };
+      buffer = record { list = sets (b .list) (b .at) (encode wide e); at = (b .at + length (encode wide e)) % 256; next = (b .next + 1) % 256; slot = b .slot; need = b .need };
       number = b .next;
     }
 

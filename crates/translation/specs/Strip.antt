@@ -6,6 +6,7 @@ use lib.Dec.{eqb, ltb, leb}
 use lib.ListN.{length, getD, drop}
 use Rattle.strip.specs.declared.reader.Entry.{Entry}
 use Rattle.strip.specs.declared.reader.Entry.the-variants as Entry
+use Rattle.strip.specs.Entry.{wide}
 use Rattle.strip.specs.Shape.{stripBytes}
 use Rattle.translation.specs.Insn.{Insn, bits, bit}
 use Rattle.translation.specs.Code.{Code, Built, build}
@@ -50,12 +51,12 @@ block g c = g .entries ++ (Entry.One 100 (g .result) ∷ (build c [] (g .next) .
 unfoldable pub guarded : Insn → Code → List Entry
 guarded i c = cond (eqb (guard i) 7) (cond (guardNot i) [] (build c [] 0 .entries)) (block (build (p (guard i) (guardNot i)) [] 0) c)
 
--- the entries of kind k's strip, and its bytes
+-- the entries of kind k's strip, and its bytes in the wide layout
 unfoldable pub entriesOf : ℕ → Insn → List Entry
 entriesOf k i = guarded i (armOf k i) ++ (Entry.Bare 255 ∷ [])
 
 unfoldable pub strip : ℕ → Insn → List ℕ
-strip k i = stripBytes (entriesOf k i)
+strip k i = stripBytes wide (entriesOf k i)
 
 -- the marks after it: a guard that never holds raises none
 unfoldable pub marked : ℕ → Insn → List ℕ → List ℕ

@@ -9,6 +9,7 @@ use crate::insn::Insn;
 use crate::insn::cslot;
 use crate::insn::cword;
 use strip::Entry;
+use strip::Layout;
 use strip::write_bare;
 use strip::write_cell;
 use strip::write_four;
@@ -110,7 +111,7 @@ pub fn one(buf: &mut [u8; 264], p: Pos, k: u8, a: u8) -> Made
     ensures { λ r. ⌜ Makes (view (now (buf .entry)) p) (viewMade (now (buf .exit)) r) (Entry.One k a) ⌝ }
 {
     let at = p.at as usize;
-    write_one(buf, at, k, a as u16);
+    write_one(buf, Layout::Wide, at, k, a as u16);
     next(p, 3)
 }
 
@@ -118,7 +119,7 @@ pub fn two(buf: &mut [u8; 264], p: Pos, k: u8, a: u8, b: u8) -> Made
     ensures { λ r. ⌜ Makes (view (now (buf .entry)) p) (viewMade (now (buf .exit)) r) (Entry.Two k a b) ⌝ }
 {
     let at = p.at as usize;
-    write_two(buf, at, k, a as u16, b as u16);
+    write_two(buf, Layout::Wide, at, k, a as u16, b as u16);
     next(p, 5)
 }
 
@@ -126,7 +127,7 @@ pub fn three(buf: &mut [u8; 264], p: Pos, k: u8, a: u8, b: u8, c: u8) -> Made
     ensures { λ r. ⌜ Makes (view (now (buf .entry)) p) (viewMade (now (buf .exit)) r) (Entry.Three k a b c) ⌝ }
 {
     let at = p.at as usize;
-    write_three(buf, at, k, a as u16, b as u16, c as u16);
+    write_three(buf, Layout::Wide, at, k, a as u16, b as u16, c as u16);
     next(p, 7)
 }
 
@@ -134,7 +135,16 @@ pub fn four(buf: &mut [u8; 264], p: Pos, k: u8, a: u8, b: u8, c: u8, d: u8) -> M
     ensures { λ r. ⌜ Makes (view (now (buf .entry)) p) (viewMade (now (buf .exit)) r) (Entry.Four k a b c d) ⌝ }
 {
     let at = p.at as usize;
-    write_four(buf, at, k, a as u16, b as u16, c as u16, d as u16);
+    write_four(
+        buf,
+        Layout::Wide,
+        at,
+        k,
+        a as u16,
+        b as u16,
+        c as u16,
+        d as u16,
+    );
     next(p, 9)
 }
 
@@ -142,7 +152,7 @@ pub fn store(buf: &mut [u8; 264], p: Pos, k: u8, n: u8, a: u8) -> Pos
     ensures { λ r. ⌜ Writes (view (now (buf .entry)) p) (view (now (buf .exit)) r) (Entry.Store k n a) ⌝ }
 {
     let at = p.at as usize;
-    write_store(buf, at, k, n, a as u16);
+    write_store(buf, Layout::Wide, at, k, n, a as u16);
     skip(p, 4)
 }
 
@@ -159,7 +169,7 @@ pub fn open(buf: &mut [u8; 264], p: Pos, a: u8) -> Pos
     ensures { λ r. ⌜ Writes (view (now (buf .entry)) p) (view (now (buf .exit)) r) (Entry.One 100 a) ⌝ }
 {
     let at = p.at as usize;
-    write_one(buf, at, 100, a as u16);
+    write_one(buf, Layout::Wide, at, 100, a as u16);
     skip(p, 3)
 }
 

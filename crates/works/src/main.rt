@@ -9,6 +9,7 @@ ghost use Prim.Native.Nat.{_+_, _*_, _^_, _%_, _/_, _<_, _≤_};
 ghost use mathlib.Core.Path.{_≡_};
 ghost use mathlib.Core.List.{[]};
 ghost use lib.ListN.{length};
+ghost use Rattle.strip.specs.Entry.{wide};
 ghost use Rattle.evaluation.specs.Machine.{answerOf, evaluation};
 use evaluation::Evaluated;
 use evaluation::State;
@@ -17,6 +18,7 @@ use libc::STDOUT_FILENO;
 use room::empty;
 use room::in_turn;
 use steps::in_order;
+use strip::Layout;
 
 fn say(text: &[u8]) {
     io::write_all(STDOUT_FILENO, text);
@@ -35,10 +37,10 @@ fn refused(number: u32) {
 
 // The works read no constant, and none is lent.
 fn evaluated(run: &[u8], s: State) -> Evaluated
-    ensures { λ r. ⌜ answerOf r ≡ evaluation (now (run .entry)) s [] ⌝ }
+    ensures { λ r. ⌜ answerOf r ≡ evaluation wide (now (run .entry)) s [] ⌝ }
 {
     let none = [0u32; 0];
-    evaluation::evaluate(run, s, &none)
+    evaluation::evaluate(run, Layout::Wide, s, &none)
 }
 
 // Register n holds n in each of its four bytes.

@@ -3,14 +3,14 @@
 use std::time::Duration;
 
 use oracle::evaluate::State;
-use oracle::format::encode;
+use oracle::format::{Entry, Layout, encode};
 use oracle::generate::{random_admitted, with_field};
 use oracle::record::Record;
 use oracle::rng::Rng;
 use oracle::starts::{random_state, random_words};
 use oracle::{Form, SLOTS, translate_entries};
 
-use crate::{evaluate_bench, reach_bench, shape_bench, translate_bench};
+use crate::{convert_bench, evaluate_bench, reach_bench, shape_bench, translate_bench};
 
 /// Strips, or records, of a row. A round takes a few milliseconds, so that some are not interrupted on a busy machine.
 pub const STRIPS: usize = 10_000;
@@ -23,11 +23,12 @@ const SEED: u64 = 1;
 type Rows = for<'a> fn(&'a Works) -> Vec<Row<'a>>;
 
 /// The parts by name.
-const PARTS: [(&str, Rows); 4] = [
+const PARTS: [(&str, Rows); 5] = [
     ("shape", shape_bench::rows),
     ("evaluation", evaluate_bench::rows),
     ("translation", translate_bench::rows),
     ("reach", reach_bench::rows),
+    ("convert", convert_bench::rows),
 ];
 
 /// What one round over the work gives: its time and what it leaves. `None` if something was refused.
@@ -92,8 +93,18 @@ impl<'a> Row<'a> {
     }
 }
 
+/// The strips of random records.
+fn translated(rng: &mut Rng, strips: usize) -> Vec<Vec<Entry>> {
+    let mut strip = || {
+        let record = with_near_constant(random_admitted(rng));
+        translate_entries(&record.to_bytes(), &mut [0; SLOTS]).expect("an admitted record")
+    };
+    (0..strips).map(|_| strip()).collect()
+}
+
 /// Strips one after another.
 pub struct Work {
+    pub layout: Layout,
     bytes: Vec<u8>,
     entries: usize,
     /// Where each strip ends.
@@ -101,13 +112,11 @@ pub struct Work {
 }
 
 impl Work {
-    fn translated(rng: &mut Rng, strips: usize) -> Work {
-        let mut work = Work { bytes: Vec::new(), entries: 0, ends: Vec::with_capacity(strips) };
-        for _ in 0..strips {
-            let record = with_near_constant(random_admitted(rng));
-            let strip = translate_entries(&record.to_bytes(), &mut [0; SLOTS]).expect("an admitted record");
+    fn new(strips: &[Vec<Entry>], layout: Layout) -> Work {
+        let mut work = Work { layout, bytes: Vec::new(), entries: 0, ends: Vec::with_capacity(strips.len()) };
+        for strip in strips {
             work.entries += strip.len();
-            work.bytes.extend(encode(&strip));
+            work.bytes.extend(encode(strip, layout));
             work.ends.push(work.bytes.len());
         }
         work
@@ -116,6 +125,7 @@ impl Work {
     fn repeated(&self, times: usize) -> Work {
         let starts = (0..times).map(|time| time * self.bytes.len());
         Work {
+            layout: self.layout,
             bytes: self.bytes.repeat(times),
             entries: self.entries * times,
             ends: starts.flat_map(|start| self.ends.iter().map(move |end| start + end)).collect(),
@@ -152,6 +162,8 @@ fn with_near_constant(mut record: Record) -> Record {
 pub struct Works {
     /// Strips of random records.
     pub long: Work,
+    /// The same strips in the narrow layout.
+    pub narrow: Work,
     /// The same strips twice: shows whether the time for each strip stays the same.
     pub twice: Work,
     /// A few strips again and again: the processor learns their branches.
@@ -164,11 +176,13 @@ pub struct Works {
 impl Works {
     fn new() -> Works {
         let mut rng = Rng::new(SEED);
-        let long = Work::translated(&mut rng, STRIPS);
+        let strips = translated(&mut rng, STRIPS);
+        let long = Work::new(&strips, Layout::Wide);
         Works {
             twice: long.repeated(2),
             long,
-            repeated: Work::translated(&mut rng, SHORT).repeated(STRIPS / SHORT),
+            narrow: Work::new(&strips, Layout::Narrow),
+            repeated: Work::new(&translated(&mut rng, SHORT), Layout::Wide).repeated(STRIPS / SHORT),
             start: random_state(&mut rng),
             words: random_words(&mut rng),
         }

@@ -5,10 +5,11 @@ use oracle::{evaluate, meaning};
 
 mod raw {
     unsafe extern "C" {
-        pub fn mehkura_shape(run: *const u8, len: usize) -> u32;
+        pub fn mehkura_shape(run: *const u8, run_len: usize, layout: u32) -> u32;
         pub fn mehkura_evaluate(
             run: *const u8,
             run_len: usize,
+            layout: u32,
             registers: *mut u32,
             registers_len: usize,
             truths: *mut u8,
@@ -29,13 +30,21 @@ mod raw {
             written: *mut usize,
         ) -> u32;
         pub fn mehkura_reach(run: *const u8, run_len: usize, cells: *mut u8, cells_len: usize) -> u32;
+        pub fn mehkura_convert(
+            run: *const u8,
+            run_len: usize,
+            layout: u32,
+            out: *mut u8,
+            out_len: usize,
+            written: *mut usize,
+        ) -> u32;
     }
 }
 
-/// The number that the library gives for a run of strips: 0 if the shape is right, else 7.
-pub fn shape(run: &[u8]) -> u32 {
+/// The number that the library gives for a run of strips in the layout of that number: 0 if the shape is right, else 7.
+pub fn shape(run: &[u8], layout: u32) -> u32 {
     // SAFETY: the pointer and the length are those of a live slice, which the library only reads.
-    unsafe { raw::mehkura_shape(run.as_ptr(), run.len()) }
+    unsafe { raw::mehkura_shape(run.as_ptr(), run.len(), layout) }
 }
 
 /// A state as the library takes it: truths are the predicates and then the flags Z, S, C, O, each 0 or 1.
@@ -112,22 +121,23 @@ impl Evaluated {
     }
 }
 
-/// What the library answers for a run of strips, from cells and whatever stands where the fault goes: 0 if it is
-/// evaluated, else 7, 8 or 9. The cells become those after the run; a refusal must leave them as they are, and every
-/// answer but 9 the fault.
-pub fn evaluated(run: &[u8], mut cells: Cells, constants: &[u32], mut fault: Fault) -> Evaluated {
-    let number = evaluate(run, &mut cells, constants, &mut fault);
+/// What the library answers for a run of strips in the layout of that number, from cells and whatever stands where the
+/// fault goes: 0 if it is evaluated, else 7, 8 or 9. The cells become those after the run; a refusal must leave them as
+/// they are, and every answer but 9 the fault.
+pub fn evaluated(run: &[u8], layout: u32, mut cells: Cells, constants: &[u32], mut fault: Fault) -> Evaluated {
+    let number = evaluate(run, layout, &mut cells, constants, &mut fault);
     Evaluated { number, fault, cells }
 }
 
 /// The number alone, with cells and fault in place.
-pub fn evaluate(run: &[u8], cells: &mut Cells, constants: &[u32], fault: &mut Fault) -> u32 {
-    evaluate_lists(run, &mut cells.registers, &mut cells.truths, constants, fault)
+pub fn evaluate(run: &[u8], layout: u32, cells: &mut Cells, constants: &[u32], fault: &mut Fault) -> u32 {
+    evaluate_lists(run, layout, &mut cells.registers, &mut cells.truths, constants, fault)
 }
 
 /// The same with lists of any length. Other lengths than 255 and 11 must be refused with 7.
 pub fn evaluate_lists(
     run: &[u8],
+    layout: u32,
     registers: &mut [u32],
     truths: &mut [u8],
     constants: &[u32],
@@ -139,6 +149,7 @@ pub fn evaluate_lists(
         raw::mehkura_evaluate(
             run.as_ptr(),
             run.len(),
+            layout,
             registers.as_mut_ptr(),
             registers.len(),
             truths.as_mut_ptr(),
@@ -177,4 +188,13 @@ pub fn reach(run: &[u8], cells: &mut [u8]) -> u32 {
     // SAFETY: the pointers and lengths are those of live slices. The library writes to the cells alone, which are
     // borrowed for that and do not overlap the run.
     unsafe { raw::mehkura_reach(run.as_ptr(), run.len(), cells.as_mut_ptr(), cells.len()) }
+}
+
+/// The number that the library gives for a run of strips in the layout of that number: 0 if it is converted, else 7 or
+/// 6. Then the run in the other layout stands at the room's start, and `written` is its length. A refusal must leave
+/// both as they are.
+pub fn convert(run: &[u8], layout: u32, room: &mut [u8], written: &mut usize) -> u32 {
+    // SAFETY: the pointers and lengths are those of live slices and of one number. The library writes to room and the
+    // number alone, which are borrowed for that and do not overlap.
+    unsafe { raw::mehkura_convert(run.as_ptr(), run.len(), layout, room.as_mut_ptr(), room.len(), written) }
 }

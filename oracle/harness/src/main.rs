@@ -1,6 +1,9 @@
 //! The program `harness`: see [`HELP`].
 
+mod answers;
 mod bench;
+mod convert_bench;
+mod convert_diff;
 mod evaluate_bench;
 mod evaluate_diff;
 mod ffi;
@@ -9,6 +12,7 @@ mod pair;
 mod random_bytes;
 mod reach_bench;
 mod reach_diff;
+mod rooms;
 mod runs;
 mod shape_bench;
 mod shape_diff;
@@ -23,14 +27,15 @@ harness: compares the static library of the port with plain Rust
 
 Usage:
   harness shape-diff COUNT SEED
-      Runs both shape tests on COUNT random runs of strips (translated, made at random, near misses, damaged, short
-      bytes) and on all byte strings of up to 3 bytes. Prints the verdicts for each class and each difference.
-      Some hundred runs are needed for every class to have both verdicts.
+      Runs both shape tests on COUNT random runs of strips (translated, made at random, near misses, damaged, of the
+      other layout, short bytes) and on all byte strings of up to 3 bytes, in both layouts, and with numbers that name
+      no layout. Prints the verdicts for each class and each difference. Some thousand runs are needed for every class
+      to have both verdicts.
   harness evaluate-diff COUNT SEED
-      Runs both evaluations on COUNT random runs of strips (translated, made at random, near misses, damaged, mixed)
-      from random states with random lists of constants. Compares the number and the whole state, which a refusal must
-      leave as it was. Prints the answers for each class and each difference.
-      Some thousand runs are needed for every class to have its answers.
+      Runs both evaluations on COUNT random runs of strips (translated, made at random, near misses, damaged, mixed, of
+      the other layout), in both layouts and with numbers that name none, from random states with random lists of
+      constants. Compares the number and the whole state, which a refusal must leave as it was. Prints the answers for
+      each class and each difference. Some ten thousand runs are needed for every class to have its answers.
   harness translate-diff COUNT SEED
       Translates COUNT random records (random bytes, known kinds, admitted ones, near misses of the refusals 4 and 5)
       with both, into rooms that are exactly long enough, longer, shorter or empty, and carries the use marks along.
@@ -48,12 +53,18 @@ Usage:
       damaged, mixed) with random asked cells, few or many, whose bytes are any but 0, and with lists of another length.
       Compares the number and every byte, also beside the list. Prints for each class the answers and in how many runs
       the list gained and lost cells. Some thousand runs are needed for every class to have its answers.
+  harness convert-diff COUNT SEED
+      Runs both converters on COUNT random runs of strips (translated, made at random, near misses, damaged, of the
+      other layout, of no bytes), from each layout and with numbers that name none, into rooms that are exactly long
+      enough, longer, shorter or empty. Compares the number, the length and every byte of the room, also beside it. What
+      is converted must be well-formed in the other layout, become the same run when it is converted back, and evaluate
+      as the run does. Some ten thousand runs are needed for every class to have its answers.
   harness random-bytes COUNT SEED
       Calls each function of the library COUNT times on random bytes, on records and runs with bytes changed, and on
       lists of right and wrong lengths. A number that the function cannot answer, a write beside a lent list, or any
       write where it refuses is wrong. Prints how often each number was answered; each must be seen. Some ten thousand
       calls are needed. One thread for each processor.
-  harness bench [shape | evaluation | translation | reach]
+  harness bench [shape | evaluation | translation | reach | convert]
       Measures port and Rust on the same work and prints one table: nanoseconds for each strip by the port and by the
       Rust, and their ratio, port to Rust. Best of many rounds, port and Rust in turn. With a name only these rows.
   harness help | --help | -h
@@ -91,6 +102,9 @@ fn main() -> ExitCode {
         ["reach-diff", count, seed] => {
             number(count).and_then(|count| number(seed).map(|seed| reach_diff::run(count, seed)))
         }
+        ["convert-diff", count, seed] => {
+            number(count).and_then(|count| number(seed).map(|seed| convert_diff::run(count, seed)))
+        }
         ["bench"] => Ok(bench::run(None).expect("all parts")),
         ["bench", part] => bench::run(Some(part)).ok_or_else(|| format!("no benchmark `{part}`")),
         ["random-bytes", count, seed] => {
@@ -99,7 +113,7 @@ fn main() -> ExitCode {
         [] => Err("no command".to_owned()),
         [
             command @ ("shape-diff" | "evaluate-diff" | "translate-diff" | "translate-bits" | "meaning-diff"
-            | "reach-diff" | "random-bytes" | "bench"),
+            | "reach-diff" | "convert-diff" | "random-bytes" | "bench"),
             ..,
         ] => Err(format!("wrong arguments for `{command}`")),
         [command, ..] => Err(format!("no command `{command}`")),

@@ -4,6 +4,7 @@
 use std::sync::atomic::{AtomicU64, AtomicUsize, Ordering};
 use std::thread;
 
+use oracle::format::Layout;
 use oracle::generate::{TELLING_VALUES, random_admitted, with_field};
 use oracle::meaning::{State, element_named, element_read, guard_holds, lacking_word, meaning};
 use oracle::print::hex;
@@ -388,7 +389,8 @@ impl Bench {
 
         let difference = match self.translate(records) {
             Ok(len) => {
-                let library = ffi::evaluated(&self.room[..len], Cells::from(start), constants, NO_FAULT);
+                let library =
+                    ffi::evaluated(&self.room[..len], Layout::Wide.number(), Cells::from(start), constants, NO_FAULT);
                 Evaluated { number, fault, cells: Cells::from(&state) }.first_difference(&library)
             }
             Err(refused) => Some(refused),

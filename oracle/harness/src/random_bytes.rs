@@ -5,7 +5,7 @@ use std::sync::atomic::{AtomicU64, Ordering};
 use std::thread;
 
 use oracle::evaluate::{State, evaluate};
-use oracle::format::encode;
+use oracle::format::{Layout, encode};
 use oracle::generate::random_record;
 use oracle::print::hex;
 use oracle::reach::CELLS;
@@ -16,7 +16,7 @@ use oracle::strips::{TELLING_BYTES, damage, evaluation_strip, random_strip};
 
 use crate::ffi::{self, Fault};
 use crate::pair::{MarkBytes, ROOM};
-use crate::runs::{translated_near, translated_strip};
+use crate::runs::{NO_LAYOUT, translated_near, translated_strip};
 
 /// Wrong answers that are printed by a thread for each function.
 const SHOWN: u64 = 5;
@@ -43,17 +43,18 @@ struct Function {
     call: fn(&mut Caller) -> Result<u32, String>,
 }
 
-const FUNCTIONS: [Function; 4] = [
+const FUNCTIONS: [Function; 5] = [
     Function { name: "translate", numbers: &[0, 1, 2, 3, 4, 5, 6], call: |caller| caller.translate() },
     Function { name: "shape", numbers: &[0, 7], call: |caller| caller.shape() },
     Function { name: "evaluate", numbers: &[0, 7, 8, 9], call: |caller| caller.evaluate() },
     Function { name: "reach", numbers: &[0, 7], call: |caller| caller.reach() },
+    Function { name: "convert", numbers: &[0, 6, 7], call: |caller| caller.convert() },
 ];
 
 /// What is made once, and only read.
 struct Stock {
-    /// Well-formed strips of all sorts.
-    strips: Vec<Vec<u8>>,
+    /// Well-formed strips of all sorts in each layout.
+    strips: [Vec<Vec<u8>>; Layout::ALL.len()],
     /// Constant words to lend.
     words: Vec<u32>,
 }
@@ -61,13 +62,14 @@ struct Stock {
 impl Stock {
     fn new(seed: u64) -> Stock {
         let mut rng = Rng::new(seed);
-        let strip = |rng: &mut Rng| match rng.below(4) {
-            0 => translated_strip(rng),
-            1 => translated_near(rng),
-            2 => encode(&random_strip(rng)),
-            _ => encode(&evaluation_strip(rng)),
+        let mut strip = |layout| match rng.below(4) {
+            0 => translated_strip(&mut rng, layout),
+            1 => translated_near(&mut rng, layout),
+            2 => encode(&random_strip(&mut rng), layout),
+            _ => encode(&evaluation_strip(&mut rng), layout),
         };
-        Stock { strips: (0..STOCK).map(|_| strip(&mut rng)).collect(), words: random_words(&mut rng) }
+        let strips = Layout::ALL.map(|layout| (0..STOCK).map(|_| strip(layout)).collect());
+        Stock { strips, words: random_words(&mut rng) }
     }
 }
 
@@ -174,8 +176,10 @@ impl<'a> Caller<'a> {
         (0..len).map(|_| byte()).collect()
     }
 
-    /// Bytes in place of a run: without meaning, or some strips of the stock, mostly with a few bytes changed.
-    fn fill_run(&mut self) {
+    /// Bytes in place of a run: without meaning, or some strips of the stock, mostly with a few bytes changed. Gives the
+    /// number of their layout, or now and then another number.
+    fn fill_run(&mut self) -> u32 {
+        let layout = self.rng.pick(&Layout::ALL);
         let mut run = Vec::new();
         if self.rng.one_in(4) {
             let most = self.rng.pick(&[4, 16, 64, 400]);
@@ -183,7 +187,7 @@ impl<'a> Caller<'a> {
             run = self.plain_bytes(len);
         } else {
             for _ in 0..self.rng.pick(&[0, 1, 1, 1, 1, 2, 3, 8]) {
-                run.extend_from_slice(&self.stock.strips[self.rng.below(STOCK)]);
+                run.extend_from_slice(&self.stock.strips[layout as usize][self.rng.below(STOCK)]);
             }
             for _ in 0..self.rng.below(4) {
                 damage(&mut self.rng, &mut run);
@@ -191,6 +195,12 @@ impl<'a> Caller<'a> {
         }
         let margin = self.rng.next_u64() as u8;
         self.input.fill(&mut self.rng, margin, run);
+        match self.rng.below(16) {
+            0 => self.rng.next_u64() as u32,
+            1 => self.rng.pick(&NO_LAYOUT),
+            2 | 3 => layout.other().number(),
+            _ => layout.number(),
+        }
     }
 
     /// Bytes in place of a record: without meaning, or a record, at times with a few bytes changed.
@@ -220,34 +230,36 @@ impl<'a> Caller<'a> {
         self.bytes.fill(&mut self.rng, margin, bytes);
     }
 
-    fn translate(&mut self) -> Result<u32, String> {
-        self.fill_record();
-        self.fill_bytes(MARKS);
-        let len = if self.rng.one_in(4) { self.rng.below(ROOM) } else { self.len(ROOM, 2 * ROOM) };
+    /// A room that is mostly as long as is enough, and the number for a length.
+    fn fill_room(&mut self, enough: usize) {
+        let len = if self.rng.one_in(4) { self.rng.below(enough + 1) } else { self.len(enough, 2 * enough) };
         let any = self.rng.next_u64();
         self.room.fill(&mut self.rng, any as u8, std::iter::repeat_n((any >> 8) as u8, len));
         self.written.fill(&mut self.rng, any as usize, [!any as usize]);
+    }
+
+    fn translate(&mut self) -> Result<u32, String> {
+        self.fill_record();
+        self.fill_bytes(MARKS);
+        self.fill_room(ROOM);
 
         let written = &mut self.written.list()[0];
         let number = ffi::translate(self.input.list(), self.bytes.list(), self.room.list(), written);
         let len = *written;
         let untouched = self.input.is_kept()
-            && if number == 0 {
-                self.bytes.is_kept_around(MARKS) && self.room.is_kept_beside(len) && self.written.is_kept_around(1)
-            } else {
-                self.bytes.is_kept() && self.room.is_kept() && self.written.is_kept()
-            };
+            && self.is_room_kept(number, len)
+            && if number == 0 { self.bytes.is_kept_around(MARKS) } else { self.bytes.is_kept() };
         self.verdict(number, untouched)
     }
 
     fn shape(&mut self) -> Result<u32, String> {
-        self.fill_run();
-        let number = ffi::shape(self.input.list());
+        let layout = self.fill_run();
+        let number = ffi::shape(self.input.list(), layout);
         self.verdict(number, self.input.is_kept())
     }
 
     fn evaluate(&mut self) -> Result<u32, String> {
-        self.fill_run();
+        let layout = self.fill_run();
         self.fill_bytes(TRUTHS);
         let len = self.len(REGISTERS, 2 * REGISTERS);
         let any = self.rng.next_u64() as u32;
@@ -261,7 +273,8 @@ impl<'a> Caller<'a> {
 
         let constants = &self.stock.words[..lent];
         let fault = &mut self.fault.list()[0];
-        let number = ffi::evaluate_lists(self.input.list(), self.registers.list(), self.bytes.list(), constants, fault);
+        let (run, registers, truths) = (self.input.list(), self.registers.list(), self.bytes.list());
+        let number = ffi::evaluate_lists(run, layout, registers, truths, constants, fault);
         let fault = *fault;
         let untouched = self.input.is_kept()
             && if number == 0 {
@@ -272,7 +285,7 @@ impl<'a> Caller<'a> {
                 self.registers.is_kept() && self.bytes.is_kept()
             }
             && if number == 9 {
-                self.fault.is_kept_around(1) && self.asks_for(fault, constants)
+                self.fault.is_kept_around(1) && self.asks_for(fault, layout, constants)
             } else {
                 self.fault.is_kept()
             };
@@ -280,13 +293,14 @@ impl<'a> Caller<'a> {
     }
 
     /// Whether plain Rust refuses the run of the last call at the same constant word.
-    fn asks_for(&self, fault: Fault, constants: &[u32]) -> bool {
+    fn asks_for(&self, fault: Fault, layout: u32, constants: &[u32]) -> bool {
+        let Some(layout) = Layout::from_number(layout) else { return false };
         let Ok(registers) = self.registers.list_before().try_into() else { return false };
         let [predicates @ .., z, s, c, o] = self.bytes.list_before() else { return false };
         let Ok(predicates) = <[u8; 7]>::try_from(predicates) else { return false };
         let truth = |byte: u8| byte != 0;
         let state = State { registers, predicates: predicates.map(truth), flags: [*z, *s, *c, *o].map(truth) };
-        Fault::of(&evaluate(self.input.list_before(), &state, constants)) == Some(fault)
+        Fault::of(&evaluate(self.input.list_before(), layout, &state, constants)) == Some(fault)
     }
 
     fn reach(&mut self) -> Result<u32, String> {
@@ -300,6 +314,27 @@ impl<'a> Caller<'a> {
                 self.bytes.is_kept()
             };
         self.verdict(number, untouched)
+    }
+
+    fn convert(&mut self) -> Result<u32, String> {
+        let layout = self.fill_run();
+        // No run is longer in the other layout than twice.
+        self.fill_room(2 * self.input.len);
+
+        let written = &mut self.written.list()[0];
+        let number = ffi::convert(self.input.list(), layout, self.room.list(), written);
+        let len = *written;
+        let untouched = self.input.is_kept() && self.is_room_kept(number, len);
+        self.verdict(number, untouched)
+    }
+
+    /// Whether nothing is written beside the bytes that were asked for, and nothing at all where the call is refused.
+    fn is_room_kept(&self, number: u32, len: usize) -> bool {
+        if number == 0 {
+            self.room.is_kept_beside(len) && self.written.is_kept_around(1)
+        } else {
+            self.room.is_kept() && self.written.is_kept()
+        }
     }
 
     /// The number, if nothing was written that should not be.

@@ -1,13 +1,13 @@
 //! The differential test of reach: the same runs and asked cells through plain Rust and through the library.
 
-use oracle::format::encode;
+use oracle::format::{Layout, encode};
 use oracle::print::hex;
 use oracle::reach::{CELLS, CONSTANTS, FLAGS, PREDICATES, reach};
 use oracle::rng::Rng;
-use oracle::strips::{damage, evaluation_strip, near_miss, random_bytes, random_strip};
+use oracle::strips::{damage, evaluation_strip, random_bytes, random_strip};
 
 use crate::ffi;
-use crate::runs::{Make, damaged, translated_near, translated_strip};
+use crate::runs::{Make, damaged, near_miss_of, translated_near, translated_strip};
 
 /// Differences that are printed, and how many bytes of a run.
 const SHOWN: u64 = 20;
@@ -43,18 +43,20 @@ impl Class {
     }
 }
 
-const CLASSES: [Class; 11] = [
+const CLASSES: [Class; 12] = [
     Class::good("translated", translated),
     Class::good("translated, few cells", few_cells),
     Class::good("hand-made", made),
     Class::good("of any values", of_any_values),
     Class::good("of all sorts", all_sorts),
     Class::mixed("near miss", near_misses),
-    Class::mixed("translated, damaged", |rng| damaged(rng, few_cells)),
-    Class::mixed("hand-made, damaged", |rng| damaged(rng, made)),
+    Class::mixed("translated, damaged", |rng, layout| damaged(rng, layout, few_cells)),
+    Class::mixed("hand-made, damaged", |rng, layout| damaged(rng, layout, made)),
     Class::mixed("one strip damaged", one_damaged),
     // Too short to move much.
-    Class { moves: false, ..Class::mixed("random bytes", random_bytes) },
+    Class { moves: false, ..Class::mixed("random bytes", |rng, _| random_bytes(rng)) },
+    // Reach reads the wide layout. The same bytes are a run there too if nothing refers to a value.
+    Class { moves: false, ..Class::mixed("of the narrow layout", |rng, layout| all_sorts(rng, layout.other())) },
     Class {
         name: "other length of cells",
         accepts: false,
@@ -75,55 +77,55 @@ fn strip_count(rng: &mut Rng) -> usize {
     }
 }
 
-fn run_of(rng: &mut Rng, make: Make) -> Vec<u8> {
-    (0..strip_count(rng)).flat_map(|_| make(rng)).collect()
+fn run_of(rng: &mut Rng, layout: Layout, make: Make) -> Vec<u8> {
+    (0..strip_count(rng)).flat_map(|_| make(rng, layout)).collect()
 }
 
-fn translated(rng: &mut Rng) -> Vec<u8> {
-    run_of(rng, translated_strip)
+fn translated(rng: &mut Rng, layout: Layout) -> Vec<u8> {
+    run_of(rng, layout, translated_strip)
 }
 
-fn few_cells(rng: &mut Rng) -> Vec<u8> {
-    run_of(rng, translated_near)
+fn few_cells(rng: &mut Rng, layout: Layout) -> Vec<u8> {
+    run_of(rng, layout, translated_near)
 }
 
-fn made(rng: &mut Rng) -> Vec<u8> {
-    run_of(rng, |rng| encode(&evaluation_strip(rng)))
+fn made(rng: &mut Rng, layout: Layout) -> Vec<u8> {
+    run_of(rng, layout, |rng, layout| encode(&evaluation_strip(rng), layout))
 }
 
-fn of_any_values(rng: &mut Rng) -> Vec<u8> {
-    run_of(rng, |rng| encode(&random_strip(rng)))
+fn of_any_values(rng: &mut Rng, layout: Layout) -> Vec<u8> {
+    run_of(rng, layout, |rng, layout| encode(&random_strip(rng), layout))
 }
 
-fn any_strip(rng: &mut Rng) -> Vec<u8> {
+fn any_strip(rng: &mut Rng, layout: Layout) -> Vec<u8> {
     match rng.below(8) {
-        0 => encode(&random_strip(rng)),
-        1 | 2 => encode(&evaluation_strip(rng)),
-        3 => translated_strip(rng),
-        _ => translated_near(rng),
+        0 => encode(&random_strip(rng), layout),
+        1 | 2 => encode(&evaluation_strip(rng), layout),
+        3 => translated_strip(rng, layout),
+        _ => translated_near(rng, layout),
     }
 }
 
-fn all_sorts(rng: &mut Rng) -> Vec<u8> {
-    run_of(rng, any_strip)
+fn all_sorts(rng: &mut Rng, layout: Layout) -> Vec<u8> {
+    run_of(rng, layout, any_strip)
 }
 
 /// A near miss among strips of all sorts.
-fn near_misses(rng: &mut Rng) -> Vec<u8> {
-    let entries = if rng.one_in(2) { evaluation_strip(rng) } else { random_strip(rng) };
-    let strip = near_miss(rng, entries);
-    among(rng, &strip)
+fn near_misses(rng: &mut Rng, layout: Layout) -> Vec<u8> {
+    let made = if rng.one_in(2) { evaluation_strip } else { random_strip };
+    let strip = near_miss_of(rng, layout, made);
+    among(rng, layout, &strip)
 }
 
-fn one_damaged(rng: &mut Rng) -> Vec<u8> {
-    let mut strip = any_strip(rng);
+fn one_damaged(rng: &mut Rng, layout: Layout) -> Vec<u8> {
+    let mut strip = any_strip(rng, layout);
     damage(rng, &mut strip);
-    among(rng, &strip)
+    among(rng, layout, &strip)
 }
 
-fn among(rng: &mut Rng, strip: &[u8]) -> Vec<u8> {
-    let before = (0..rng.below(3)).flat_map(|_| any_strip(rng)).collect::<Vec<u8>>();
-    let after = (0..rng.below(3)).flat_map(|_| any_strip(rng)).collect::<Vec<u8>>();
+fn among(rng: &mut Rng, layout: Layout, strip: &[u8]) -> Vec<u8> {
+    let before = (0..rng.below(3)).flat_map(|_| any_strip(rng, layout)).collect::<Vec<u8>>();
+    let after = (0..rng.below(3)).flat_map(|_| any_strip(rng, layout)).collect::<Vec<u8>>();
     [&before, strip, &after].concat()
 }
 
@@ -255,7 +257,7 @@ pub fn run(count: u64, seed: u64) -> bool {
     for index in 0..count {
         let at = (index % CLASSES.len() as u64) as usize;
         let class = &CLASSES[at];
-        let run = (class.make)(&mut rng);
+        let run = (class.make)(&mut rng, Layout::Wide);
         let len = if class.wrong_len { wrong_len(&mut rng) } else { CELLS };
         let mut buffer: Buffer = [rng.next_u64() as u8; size_of::<Buffer>()];
         asked(&mut rng, &mut buffer[MARGIN..MARGIN + len]);

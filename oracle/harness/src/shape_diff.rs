@@ -1,13 +1,16 @@
 //! The differential test of the shape test: the same runs through plain Rust and through the library.
 
-use oracle::format::encode;
+use oracle::format::Layout;
 use oracle::print::hex;
 use oracle::rng::Rng;
 use oracle::shape::shape_ok;
-use oracle::strips::{damage, near_miss, random_bytes, random_strip};
+use oracle::strips::{random_bytes, random_strip};
 
 use crate::ffi;
-use crate::runs::{Make, damaged, translated, translated_strip};
+use crate::runs::{
+    Make, NO_LAYOUT, damaged, last_damaged, near_miss_of, of_any_values, of_both_layouts, of_the_other_layout,
+    translated, turn,
+};
 
 /// Differences that are printed in full.
 const SHOWN: u64 = 20;
@@ -16,6 +19,7 @@ const SHOWN: u64 = 20;
 #[derive(Clone, Copy, PartialEq, Eq)]
 enum Ought {
     Accept,
+    Refuse,
     Both,
 }
 
@@ -25,35 +29,17 @@ struct Class {
     make: Make,
 }
 
-const CLASSES: [Class; 7] = [
+const CLASSES: [Class; 9] = [
     Class { name: "translated", ought: Ought::Accept, make: translated },
-    Class { name: "made at random", ought: Ought::Accept, make: made },
-    Class { name: "near miss", ought: Ought::Both, make: |rng| near_misses(rng) },
-    Class { name: "translated, damaged", ought: Ought::Both, make: |rng| damaged(rng, translated) },
-    Class { name: "made, damaged", ought: Ought::Both, make: |rng| damaged(rng, made) },
+    Class { name: "made at random", ought: Ought::Accept, make: of_any_values },
+    Class { name: "near miss", ought: Ought::Both, make: |rng, layout| near_miss_of(rng, layout, random_strip) },
+    Class { name: "translated, damaged", ought: Ought::Both, make: |rng, layout| damaged(rng, layout, translated) },
+    Class { name: "made, damaged", ought: Ought::Both, make: |rng, layout| damaged(rng, layout, of_any_values) },
     Class { name: "last strip damaged", ought: Ought::Both, make: last_damaged },
-    Class { name: "random bytes", ought: Ought::Both, make: random_bytes },
+    Class { name: "of both layouts", ought: Ought::Accept, make: of_both_layouts },
+    Class { name: "of the other layout", ought: Ought::Both, make: of_the_other_layout },
+    Class { name: "random bytes", ought: Ought::Both, make: |rng, _| random_bytes(rng) },
 ];
-
-fn made(rng: &mut Rng) -> Vec<u8> {
-    (0..1 + rng.below(3)).flat_map(|_| encode(&random_strip(rng))).collect()
-}
-
-fn near_misses(rng: &mut Rng) -> Vec<u8> {
-    let entries = random_strip(rng);
-    near_miss(rng, entries)
-}
-
-fn last_damaged(rng: &mut Rng) -> Vec<u8> {
-    let mut run = translated(rng);
-    run.extend(made(rng));
-    let mut last = if rng.one_in(2) { translated_strip(rng) } else { near_misses(rng) };
-    if rng.one_in(2) {
-        damage(rng, &mut last);
-    }
-    run.extend(last);
-    run
-}
 
 /// Counts of one class.
 #[derive(Default)]
@@ -64,20 +50,21 @@ struct Tally {
 }
 
 impl Tally {
-    fn compare(&mut self, name: &str, run: &[u8], shown: &mut u64) {
-        let plain = shape_ok(run);
-        let library = ffi::shape(run);
-        if plain {
+    /// The layout is given by its number, which may name none.
+    fn compare(&mut self, name: &str, run: &[u8], layout: u32, shown: &mut u64) {
+        let well_formed = Layout::from_number(layout).is_some_and(|layout| shape_ok(run, layout));
+        let library = ffi::shape(run, layout);
+        if well_formed {
             self.accepted += 1;
         } else {
             self.refused += 1;
         }
-        if library != if plain { 0 } else { 7 } {
+        let plain = if well_formed { 0 } else { 7 };
+        if library != plain {
             self.different += 1;
             *shown += 1;
             if *shown <= SHOWN {
-                let plain = if plain { 0 } else { 7 };
-                println!("difference ({name}): plain {plain}, library {library}, run {}", hex(run));
+                println!("difference ({name}): plain {plain}, library {library}, layout {layout}, run {}", hex(run));
             }
         }
     }
@@ -87,53 +74,65 @@ impl Tally {
         let Tally { accepted, refused, different } = self;
         let complaint = match ought {
             Ought::Accept if *refused > 0 => "  <- holds refused runs",
-            Ought::Accept if *accepted == 0 => "  <- empty",
+            Ought::Refuse if *accepted > 0 => "  <- holds accepted runs",
+            Ought::Accept | Ought::Refuse if *accepted + *refused == 0 => "  <- empty",
             Ought::Both if *accepted == 0 || *refused == 0 => "  <- lacks a verdict",
             _ => "",
         };
-        println!("{name:<24} {accepted:>10} accepted {refused:>10} refused {different:>8} different{complaint}");
+        println!("{name:<30} {accepted:>10} accepted {refused:>10} refused {different:>8} different{complaint}");
         complaint.is_empty() && *different == 0
     }
 }
 
 /// Every byte string of up to three bytes.
-fn exhaustive(tally: &mut Tally, name: &str, shown: &mut u64) {
-    tally.compare(name, &[], shown);
+fn exhaustive(tally: &mut Tally, name: &str, layout: u32, shown: &mut u64) {
+    tally.compare(name, &[], layout, shown);
     for number in 0..1u32 << 24 {
         let [a, b, c, _] = number.to_le_bytes();
-        tally.compare(name, &[a, b, c], shown);
+        tally.compare(name, &[a, b, c], layout, shown);
         if number < 1 << 16 {
-            tally.compare(name, &[a, b], shown);
+            tally.compare(name, &[a, b], layout, shown);
         }
         if number < 1 << 8 {
-            tally.compare(name, &[a], shown);
+            tally.compare(name, &[a], layout, shown);
         }
     }
 }
 
-/// Compares on `count` random runs, shared out among the classes, and on all short ones. True if there is no difference
-/// and every class has the verdicts that it ought to have.
+/// Compares on `count` random runs, shared out among the classes, in each layout and in none, and on all short ones.
+/// True if there is no difference and every class has the verdicts that it ought to have.
 pub fn run(count: u64, seed: u64) -> bool {
     let mut rng = Rng::new(seed);
     let mut shown = 0;
-    let mut tallies: [Tally; CLASSES.len()] = Default::default();
-    for index in 0..count {
-        let at = (index % CLASSES.len() as u64) as usize;
-        let run = (CLASSES[at].make)(&mut rng);
-        tallies[at].compare(CLASSES[at].name, &run, &mut shown);
+    let mut tallies: [[Tally; CLASSES.len()]; Layout::ALL.len()] = Default::default();
+    let mut short: [Tally; Layout::ALL.len()] = Default::default();
+    let mut no_layout = Tally::default();
+    let (short_name, no_layout_name) = ("all of up to 3 bytes", "no such layout");
+    for number in NO_LAYOUT {
+        no_layout.compare(no_layout_name, &[], number, &mut shown);
     }
-    let mut short = Tally::default();
-    let short_name = "all of up to 3 bytes";
-    exhaustive(&mut short, short_name, &mut shown);
+    for index in 0..count {
+        let (layout, at) = turn(index, CLASSES.len());
+        let run = (CLASSES[at].make)(&mut rng, layout);
+        tallies[layout as usize][at].compare(CLASSES[at].name, &run, layout.number(), &mut shown);
+        no_layout.compare(no_layout_name, &run, rng.pick(&NO_LAYOUT), &mut shown);
+    }
+    for layout in Layout::ALL {
+        exhaustive(&mut short[layout as usize], short_name, layout.number(), &mut shown);
+    }
 
     if shown > SHOWN {
         println!("{} more differences", shown - SHOWN);
     }
     let mut fine = true;
-    for (class, tally) in CLASSES.iter().zip(&tallies) {
-        fine &= tally.report(class.name, class.ought);
+    for layout in Layout::ALL {
+        let report = |tally: &Tally, name, ought| tally.report(&format!("{} {name}", layout.name()), ought);
+        for (class, tally) in CLASSES.iter().zip(&tallies[layout as usize]) {
+            fine &= report(tally, class.name, class.ought);
+        }
+        fine &= report(&short[layout as usize], short_name, Ought::Both);
     }
-    fine &= short.report(short_name, Ought::Both);
+    fine &= no_layout.report(no_layout_name, Ought::Refuse);
     println!("{}", if fine { "no difference" } else { "FAILED" });
     fine
 }

@@ -4,8 +4,9 @@ use oracle::generate::{random_admitted, random_record, with_field};
 use oracle::record::{I2I, MOV, MOV_SYSTEM_VALUE, NAMES, RECORD_LEN, Record};
 use oracle::rng::Rng;
 
+use crate::answers::complaint;
 use crate::pair::{Pair, ROOM};
-use crate::runs::Make;
+use crate::rooms::{Room, Rooms};
 
 /// Differences that are printed in full.
 const SHOWN: u64 = 20;
@@ -19,12 +20,12 @@ const ANSWERS: usize = 7;
 struct Class {
     name: &'static str,
     /// The answers that must occur.
-    must: &'static [usize],
+    must: &'static [u32],
     /// Further answers that may occur.
-    may: &'static [usize],
+    may: &'static [u32],
     /// Whether the marks that are lent have another length than they ought to have.
     wrong_marks: bool,
-    make: Make,
+    make: fn(&mut Rng) -> Vec<u8>,
 }
 
 const CLASSES: [Class; 7] = [
@@ -99,21 +100,6 @@ fn near_byte_three(rng: &mut Rng) -> Vec<u8> {
     near(rng, record, I2I)
 }
 
-/// Rooms by name. An admitted record fits into the first three and not into the others.
-const ROOMS: [&str; 6] = ["exact", "one byte more", "roomy", "one byte short", "shorter", "of no bytes"];
-const ROOMY: usize = 3;
-
-fn room_len(rng: &mut Rng, room: usize, strip: usize) -> usize {
-    match room {
-        0 => strip,
-        1 => strip + 1,
-        2 => strip + rng.below(ROOM - strip + 1),
-        3 => strip.saturating_sub(1),
-        4 => rng.below(strip.max(1)),
-        _ => 0,
-    }
-}
-
 /// Counts of one class.
 #[derive(Default)]
 struct Tally {
@@ -124,16 +110,7 @@ struct Tally {
 impl Tally {
     /// Prints the counts, and says whether they are as they ought to be.
     fn report(&self, class: &Class) -> bool {
-        let mut complaint = String::new();
-        for (answer, times) in self.answers.iter().enumerate() {
-            if class.must.contains(&answer) {
-                if *times == 0 {
-                    complaint += &format!("  <- lacks answer {answer}");
-                }
-            } else if *times > 0 && !class.may.contains(&answer) {
-                complaint += &format!("  <- holds answer {answer}");
-            }
-        }
+        let complaint = complaint((0..).zip(self.answers), class.must, class.may);
         print!("{:<24}", class.name);
         for times in self.answers {
             print!(" {times:>9}");
@@ -150,8 +127,7 @@ pub fn run(count: u64, seed: u64) -> bool {
     let mut pair = Pair::new(&mut rng);
     let mut shown = 0;
     let mut tallies: [Tally; CLASSES.len()] = Default::default();
-    // For each room: admitted records that were translated, and refused with 6.
-    let mut rooms = [[0u64; 2]; ROOMS.len()];
+    let mut rooms = Rooms::default();
     for index in 0..count {
         let at = (index % CLASSES.len() as u64) as usize;
         let class = &CLASSES[at];
@@ -159,21 +135,15 @@ pub fn run(count: u64, seed: u64) -> bool {
         if rng.one_in(MARKS_LAST) {
             pair.restart(&mut rng);
         }
-        // Half of the rooms are long enough.
-        let room = if rng.one_in(2) { rng.below(ROOMY) } else { rng.below(ROOMS.len()) };
-        let len = room_len(&mut rng, room, pair.strip_len(&record));
+        let room = Room::random(&mut rng, pair.strip_len(&record), ROOM);
         let (number, difference) = if class.wrong_marks {
             let marks_len = rng.pick(&[0, 1, 4, 32, 64, 124, 127, 129, 132, 255, 256, 512]);
-            pair.wrong_marks(&record, len, marks_len)
+            pair.wrong_marks(&record, room.len, marks_len)
         } else {
-            pair.translate(&record, len)
+            pair.translate(&record, room.len)
         };
         tallies[at].answers[number as usize] += 1;
-        match number {
-            0 => rooms[room][0] += 1,
-            6 => rooms[room][1] += 1,
-            _ => {}
-        }
+        rooms.count(room, number);
         if let Some(difference) = difference {
             tallies[at].different += 1;
             shown += 1;
@@ -195,12 +165,7 @@ pub fn run(count: u64, seed: u64) -> bool {
     for (class, tally) in CLASSES.iter().zip(&tallies) {
         fine &= tally.report(class);
     }
-    println!("{:<24} {:>9} {:>9}", "room", "accepted", "6");
-    for (at, (name, [accepted, refused])) in ROOMS.iter().zip(rooms).enumerate() {
-        let right = if at < ROOMY { accepted > 0 && refused == 0 } else { accepted == 0 && refused > 0 };
-        println!("{name:<24} {accepted:>9} {refused:>9}{}", if right { "" } else { "  <- wrong" });
-        fine &= right;
-    }
+    fine &= rooms.report();
     println!("{}", if fine { "no difference" } else { "FAILED" });
     fine
 }

@@ -1,6 +1,5 @@
-use native.Mathlib.Numerals.{towards-suc}
-use native.Mathlib.Omega.{arith}
-use lib.ListN.{length-set}
+use mathlib.Core.Path.{refl}
+use Rattle.strip.proofs.Write.{same}
 use borrow.Author.Needs.{needs}
 use Rattle.strip.proofs.writer.put_ref.Statement.{statement}
 use Rattle.strip.proofs.writer.put_ref.Tie as tie
@@ -10,9 +9,10 @@ put-ref-spec =
     tie.close
     (tie.spec
     (λ c. search needs)
+    (λ c κs. rw (c .before .enum-told .given .1) at (c .before .before .before .before .pre))
     (λ c. search needs)
-    (λ c. search needs)
-    (λ c. search needs)
-    (λ c. simp length-set (omega arith))
-    (λ c. search needs)
-    (λ c. record { is = simp towards-suc }))
+    (λ c κs. rw (c .before .enum-told2 .given .1) at (c .before .before .before .before .pre))
+    (λ c. same (c .before .before .put-pair .ensures) refl)
+    (λ c. rw (c .before .before .before .before .enum-told .given .1) (c .before .before .put-pair .ensures))
+    (λ c. same (c .before .before .put-byte .ensures) refl)
+    (λ c. rw (c .before .before .before .before .enum-told2 .given .1) (c .before .before .put-byte .ensures)))

@@ -2,7 +2,7 @@ use mathlib.Core.Path.{refl}
 use native.Mathlib.Omega.{arith}
 use Rattle.strip.specs.declared.reader.Entry.the-variants as Entry
 use Rattle.strip.specs.Entry.{encode, kindOf, immediateOf, refsOf}
-use Rattle.strip.proofs.Write.{none, put}
+use Rattle.strip.proofs.Write.{none, put, same}
 use borrow.Author.Needs.{needs}
 use Rattle.strip.proofs.writer.write_bare.Statement.{statement}
 use Rattle.strip.proofs.writer.write_bare.Tie as tie
@@ -13,7 +13,7 @@ write-bare-spec =
     tie.close
     (tie.spec
     (λ c κs. search needs)
-    (λ c. let a = c .before .before .before .args in none _ (a .at) (Entry.Bare (a .k)) (omega arith))
-    (λ c. search needs)
-    (λ c. search needs)
-    (λ c. let a = c .before .before .before .args in put _ (a .at) (Entry.Bare (a .k)) (omega arith) refl))
+    (λ c. λ len. let a = c .before .before .before .args in none len _ (a .at) (Entry.Bare (a .k)) _ refl (omega arith))
+    (λ c κs. omega arith)
+    (λ c. same (c .before .before .put-bare .ensures 0) refl)
+    (λ c. λ len. let a = c .before .before .before .before .before .before .before .args in put len _ (a .at) (Entry.Bare (a .k)) _ refl (omega arith) (c .before .before .put-bare .ensures len)))

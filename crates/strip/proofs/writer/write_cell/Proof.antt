@@ -1,9 +1,8 @@
-use native.Mathlib.Numerals.{towards-suc}
+use mathlib.Core.Path.{refl}
 use native.Mathlib.Omega.{arith}
-use lib.ListN.{length-set}
 use Rattle.strip.specs.declared.reader.Entry.the-variants as Entry
 use Rattle.strip.specs.Entry.{encode, kindOf, immediateOf, refsOf}
-use Rattle.strip.proofs.Write.{none, put}
+use Rattle.strip.proofs.Write.{none, put, same}
 use borrow.Author.Needs.{needs}
 use Rattle.strip.proofs.writer.write_cell.Statement.{statement}
 use Rattle.strip.proofs.writer.write_cell.Tie as tie
@@ -14,9 +13,7 @@ write-cell-spec =
     tie.close
     (tie.spec
     (λ c κs. search needs)
-    (λ c. let a = c .before .before .before .args in none _ (a .at) (Entry.Cell (a .k) (a .n)) (omega arith))
-    (λ c. search needs)
-    (λ c. search needs)
-    (λ c. simp length-set (omega arith))
-    (λ c. search needs)
-    (λ c. let a = c .before .before .before .args in put _ (a .at) (Entry.Cell (a .k) (a .n)) (omega arith) (simp (towards-suc))))
+    (λ c. λ len. let a = c .before .before .before .args in none len _ (a .at) (Entry.Cell (a .k) (a .c)) _ refl (omega arith))
+    (λ c κs. omega arith)
+    (λ c. same (c .before .before .put-cell .ensures 0) refl)
+    (λ c. λ len. let a = c .before .before .before .before .before .before .before .args in put len _ (a .at) (Entry.Cell (a .k) (a .c)) _ refl (omega arith) (c .before .before .put-cell .ensures len)))

@@ -1,3 +1,4 @@
+use Rattle.strip.specs.Entry.{refLength}
 use Rattle.strip.proofs.Write.{length-kept}
 use borrow.Author.Needs.{needs}
 use Rattle.strip.proofs.writer.write_entry.Statement.{statement}
@@ -23,12 +24,12 @@ write-entry-spec =
     (λ c κs. search needs)
     (λ c. search needs)
     (λ c κs. search needs)
-    (λ c. length-kept (c .before .before .write-bare .ensures))
-    (λ c. rw (c .before .before .before .before .before .e .given .1) (c .before .before .write-bare .ensures))
-    (λ c. length-kept (c .before .before .write-word .ensures))
-    (λ c. rw (c .before .before .before .before .before .e2 .given .1) (c .before .before .write-word .ensures))
-    (λ c. length-kept (c .before .before .write-cell .ensures))
-    (λ c. rw (c .before .before .before .before .before .e3 .given .1) (c .before .before .write-cell .ensures))
+    (λ c. length-kept (c .before .before .write-bare .ensures (refLength (c .before .before .before .before .before .before .before .before .args .layout))))
+    (λ c. rw (c .before .before .before .before .before .e .given .1) (c .before .before .write-bare .ensures (refLength (c .before .before .before .before .before .before .before .before .args .layout))))
+    (λ c. length-kept (c .before .before .write-word .ensures (refLength (c .before .before .before .before .before .before .before .before .args .layout))))
+    (λ c. rw (c .before .before .before .before .before .e2 .given .1) (c .before .before .write-word .ensures (refLength (c .before .before .before .before .before .before .before .before .args .layout))))
+    (λ c. length-kept (c .before .before .write-cell .ensures (refLength (c .before .before .before .before .before .before .before .before .args .layout))))
+    (λ c. rw (c .before .before .before .before .before .e3 .given .1) (c .before .before .write-cell .ensures (refLength (c .before .before .before .before .before .before .before .before .args .layout))))
     (λ c. length-kept (c .before .before .write-store .ensures))
     (λ c. rw (c .before .before .before .before .before .e4 .given .1) (c .before .before .write-store .ensures))
     (λ c. length-kept (c .before .before .write-one .ensures))

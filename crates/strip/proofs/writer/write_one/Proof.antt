@@ -1,22 +1,24 @@
-use native.Mathlib.Numerals.{towards-suc}
+use mathlib.Core.Path.{refl}
+use Prim.Native.Nat.{_+_}
 use native.Mathlib.Omega.{arith}
-use lib.ListN.{length-set}
 use Rattle.strip.specs.declared.reader.Entry.the-variants as Entry
-use Rattle.strip.specs.Entry.{encode, kindOf, immediateOf, refsOf}
+use Rattle.strip.specs.Entry.{refLength, immediateOf, refsOf}
+use Rattle.strip.proofs.Encode.{encode-length}
 use Rattle.strip.proofs.Write.{none, put, same}
 use borrow.Author.Needs.{needs}
 use Rattle.strip.proofs.writer.write_one.Statement.{statement}
 use Rattle.strip.proofs.writer.write_one.Tie as tie
 
 pub write-one-spec : {M : Type 1} → statement M
-unfolding encode kindOf immediateOf refsOf
+unfolding immediateOf refsOf
 write-one-spec =
     tie.close
     (tie.spec
     (λ c κs. search needs)
-    (λ c. let a = c .before .before .before .args in none _ (a .at) (Entry.One (a .k) (a .a)) (omega arith))
+    (λ c κs. search needs)
     (λ c. search needs)
+    (λ c. let a = c .before .before .before .before .args in let n = c .before .before .ref-length .result in none (refLength (a .layout)) _ (a .at) (Entry.One (a .k) (a .a)) (1 + n) (omega (arith, encode-length (refLength (a .layout)) (Entry.One (a .k) (a .a)), c .before .before .ref-length .ensures .0)) (omega arith))
+    (λ c κs. omega (arith, c .before .before .before .ref-length .ensures .0))
     (λ c. search needs)
-    (λ c κs. simp length-set (omega arith))
-    (λ c. same (c .before .before .put-ref .ensures) (simp length-set))
-    (λ c. let a = c .before .before .before .before .before .before .before .args in put _ (a .at) (Entry.One (a .k) (a .a)) (omega arith) (simp (c .before .before .put-ref .ensures .is, towards-suc))))
+    (λ c. same (c .before .before .put-one .ensures) refl)
+    (λ c. let a = c .before .before .before .before .before .before .before .before .args in let n = c .before .before .before .before .before .before .ref-length .result in put (refLength (a .layout)) _ (a .at) (Entry.One (a .k) (a .a)) (1 + n) (omega (arith, encode-length (refLength (a .layout)) (Entry.One (a .k) (a .a)), c .before .before .before .before .before .before .ref-length .ensures .0)) (omega (arith, c .before .before .before .before .before .before .ref-length .ensures .0)) (c .before .before .put-one .ensures)))

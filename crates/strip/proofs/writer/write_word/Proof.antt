@@ -1,6 +1,5 @@
-use native.Mathlib.Numerals.{towards-suc}
+use mathlib.Core.Path.{refl}
 use native.Mathlib.Omega.{arith}
-use lib.ListN.{length-set}
 use Rattle.strip.specs.declared.reader.Entry.the-variants as Entry
 use Rattle.strip.specs.Entry.{encode, kindOf, immediateOf, refsOf}
 use Rattle.strip.proofs.Write.{none, put, same}
@@ -14,9 +13,7 @@ write-word-spec =
     tie.close
     (tie.spec
     (λ c κs. search needs)
-    (λ c. let a = c .before .before .before .args in none _ (a .at) (Entry.Word (a .w)) (omega arith))
-    (λ c. search needs)
-    (λ c. search needs)
-    (λ c κs. simp length-set (omega arith))
-    (λ c. same (c .before .before .put-word .ensures) (simp length-set))
-    (λ c. let a = c .before .before .before .before .before .before .before .args in put _ (a .at) (Entry.Word (a .w)) (omega arith) (simp (c .before .before .put-word .ensures .is, towards-suc))))
+    (λ c. λ len. let a = c .before .before .before .args in none len _ (a .at) (Entry.Word (a .w)) _ refl (omega arith))
+    (λ c κs. omega arith)
+    (λ c. same (c .before .before .put-word .ensures 0) refl)
+    (λ c. λ len. let a = c .before .before .before .before .before .before .before .args in put len _ (a .at) (Entry.Word (a .w)) _ refl (omega arith) (c .before .before .put-word .ensures len)))

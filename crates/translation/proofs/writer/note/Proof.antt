@@ -2,7 +2,7 @@ use mathlib.Core.Path.{_≡_}
 use native.Mathlib.Omega.{arith}
 use lib.ListN.{length}
 use Rattle.strip.specs.declared.reader.Entry.the-variants as Entry
-use Rattle.strip.specs.Entry.{kindOf, refsOf, immediateOf, encode}
+use Rattle.strip.specs.Entry.{kindOf, refsOf, wide, immediateOf, encode}
 use Rattle.translation.proofs.Write.{writes}
 use borrow.Author.Needs.{needs}
 use Rattle.translation.proofs.writer.note.Statement.{statement}
@@ -16,4 +16,4 @@ note-spec =
     (λ c. search needs)
     (λ c κs. search needs)
     (λ c κs. search needs)
-    (λ c. let a = c .before .before .before .before .args in let n : length (a .buf .now) ≡ 264 = search needs in writes _ (a .p) (Entry.Cell 110 (a .n)) (omega arith) (c .before .write-cell .ensures) (c .skip .ensures)))
+    (λ c. let a = c .before .before .before .before .args in let n : length (a .buf .now) ≡ 264 = search needs in writes _ (a .p) (Entry.Cell 110 (a .n)) (omega arith) (c .before .write-cell .ensures wide) (c .skip .ensures)))

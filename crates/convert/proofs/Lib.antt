@@ -1,0 +1,4 @@
+pub mod Turns
+pub mod Passes
+pub mod Converts
+pub mod Layouts

@@ -1,0 +1,23 @@
+use mathlib.Core.Path.{refl, _∙_, sym}
+use Prim.Native.Nat.{_+_}
+use native.Mathlib.Omega.{arith}
+use Rattle.strip.specs.declared.reader.Entry.the-variants as Entry
+use Rattle.strip.specs.Entry.{refLength, encode, kindOf, bodyOf, immediateOf, refsOf}
+use Rattle.strip.proofs.Step.{step-word}
+use Rattle.strip.proofs.Write.{same}
+use Rattle.convert.proofs.Turns.{writes, tests}
+use Rattle.convert.proofs.turn.word.Statement.{statement}
+use Rattle.convert.proofs.turn.word.Tie as tie
+
+pub word-spec : {M : Type 1} → statement M
+unfolding encode kindOf bodyOf immediateOf refsOf
+word-spec =
+    tie.close
+    (tie.spec
+    (λ c κs. c .before .before .before .pre .2 (c .before .if1 .taken))
+    (λ c. omega (arith, c .before .before .before .before .before .before .pre .1))
+    (λ c. same (c .before .before .put-word .ensures (refLength (c .before .before .before .before .before .before .args .to))) refl)
+    (λ c. let a = c .before .before .before .before .before .before .args in writes (refLength (a .to)) (a .g) (a .writing) (Entry.Word (a .w)) (a .at) (a .at + 5) refl (c .before .before .before .before .if1 .taken) (c .before .before .put-word .ensures (refLength (c .before .before .before .before .before .before .args .to))))
+    (λ c κs. c .before .before .pre .0)
+    (λ c. omega (arith, c .before .before .before .pre .1))
+    (λ c. let a = c .before .before .before .args in tests (refLength (a .to)) (a .g) (a .writing) (Entry.Word (a .w)) (a .at) (a .at + 5) refl _ (c .before .if1 .left) (c .word .ensures ∙ sym (step-word _ _))))
