@@ -11,9 +11,26 @@ use Rattle.strip.specs.Entry.{refLength}
 use Rattle.strip.specs.Shape.{shapeOk}
 use Rattle.convert.specs.declared.pass.Size.{Size}
 use Rattle.convert.specs.declared.pass.Size.the-variants as Size
+use Rattle.convert.specs.declared.Outcome.{Outcome}
 use Rattle.convert.specs.declared.Outcome.the-variants.{Length, BadShape, NoRoom}
-use Rattle.convert.specs.Convert.{other, converted, answerOf, fitted, conversion}
+use Rattle.convert.specs.Convert.{other, converted, numberOf, lengthOf, Answer, answerOf, fitted, conversion}
 use Rattle.convert.specs.Pass.{measured, Passes}
+
+-- the answer by numbers says as much as the enum
+pub answer-tells : (o p : Outcome) (out out′ : List ℕ) → answerOf o out ≡ answerOf p out′ → (o ≡ p) × (out ≡ out′)
+unfolding numberOf lengthOf
+answer-tells o p out out′ q = (go o p (ap (λ (a : Answer). a .number) q) (ap (λ (a : Answer). a .length) q), ap (λ (a : Answer). a .out) q)
+  where
+    go : (o p : Outcome) → numberOf o ≡ numberOf p → lengthOf o ≡ lengthOf p → o ≡ p
+    go (Length n) (Length m) a b = ap Length b
+    go (Length n) BadShape a b = absurd (omega arith)
+    go (Length n) NoRoom a b = absurd (omega arith)
+    go BadShape (Length m) a b = absurd (omega arith)
+    go BadShape BadShape a b = refl
+    go BadShape NoRoom a b = absurd (omega arith)
+    go NoRoom (Length m) a b = absurd (omega arith)
+    go NoRoom BadShape a b = absurd (omega arith)
+    go NoRoom NoRoom a b = refl
 
 module _ (l : Layout) (run out out′ : List ℕ) (r : Size) (p : Passes (refLength l) (refLength (other l)) run false out out′ r) where
   abbrev bytes : List ℕ

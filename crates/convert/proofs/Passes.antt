@@ -26,7 +26,6 @@ use Rattle.strip.proofs.Pass.{pass-shape, pass-stop, pass-refused, pass-taken, 
 use Rattle.strip.proofs.Write.{sets-append}
 use Rattle.convert.specs.declared.pass.Size.{Size}
 use Rattle.convert.specs.declared.pass.Size.the-variants as Size
-use Rattle.convert.specs.declared.turn.Next.{Next}
 use Rattle.convert.specs.Convert.{converted}
 use Rattle.convert.specs.Pass.{rewritten, Turns, measured, Passes}
 use Rattle.convert.proofs.Turns.{length-turned}
@@ -163,11 +162,11 @@ module _ (from to : ℕ) (twice : to ≤ 2 * from) (run : List ℕ) (writing : B
       pub in-range : at + length (encode to e) ≤ 2 * length run
       in-range = omega (arith, h .most, grown-twice from to twice left e n p, found from left e n p .within)
 
-      module _ (out′ : List ℕ) (r : Next) (t : Turns to g writing e out at out′ r) where
-        tested-next : writing ≡ false → r .shape ≡ stepped g e
+      module _ (out′ : List ℕ) (g′ : Shape) (t : Turns to g writing e out at out′ g′) where
+        tested-next : writing ≡ false → g′ ≡ stepped g e
         tested-next f = t .shape ∙ ap (λ (b : Bool). cond b g (stepped g e)) f
 
-        pub stops-at : r .shape .left ≡ 0 → Passes from to run writing out₀ out′ Size.BadShape
+        pub stops-at : g′ .left ≡ 0 → Passes from to run writing out₀ out′ Size.BadShape
         stops-at z = record {
           size = ill-formed (λ f. pass-refused _ _ e n _ reads (ap (λ (s : Shape). s .left) (sym (tested-next f)) ∙ z) ∙ h .tested f .0);
           list = go writing refl;
@@ -175,30 +174,30 @@ module _ (from to : ℕ) (twice : to ≤ 2 * from) (run : List ℕ) (writing : B
           where
             go : (b : Bool) → writing ≡ b → out′ ≡ cond b Last out₀
             go true w =
-                let full : r .shape .left ≡ 64 = ap (λ (s : Shape). s .left) (t .shape ∙ ap (λ (b : Bool). cond b g (stepped g e)) w ∙ h .written w .0) in
+                let full : g′ .left ≡ 64 = ap (λ (s : Shape). s .left) (t .shape ∙ ap (λ (b : Bool). cond b g (stepped g e)) w ∙ h .written w .0) in
                 absurd (omega arith)
             go false f = t .list ∙ ap (λ (b : Bool). cond b (sets out at (encode to e)) out) f ∙ h .tested f .1
 
-        pub goes-on : (r .shape .left ≡ 0 → ⊥) → Holds from to run writing out₀ (drop n left) (r .shape) out′ (r .at)
-        goes-on any = record {
+        pub goes-on : (next : ℕ) → next ≡ at + length (encode to e) → (g′ .left ≡ 0 → ⊥) → Holds from to run writing out₀ (drop n left) g′ out′ next
+        goes-on next placed any = record {
           ready = ready writing refl;
           kept = length-turned t ∙ h .kept;
-          most = rw (t .place, length-drop n left) (omega (arith, h .most, grown-twice from to twice left e n p, found from left e n p .within));
-          size = rw (t .place) (omega (arith, sized));
+          most = rw (placed, length-drop n left) (omega (arith, h .most, grown-twice from to twice left e n p, found from left e n p .within));
+          size = rw placed (omega (arith, sized));
           tested = λ f. (
             rw (tested-next f) (pass-taken _ _ e n _ reads (λ z. any (ap (λ (s : Shape). s .left) (tested-next f) ∙ z)) ∙ h .tested f .0),
             t .list ∙ ap (λ (b : Bool). cond b (sets out at (encode to e)) out) f ∙ h .tested f .1,
           );
           written = λ w. (
             t .shape ∙ ap (λ (b : Bool). cond b g (stepped g e)) w ∙ h .written w .0,
-            ap (λ (l : List ℕ). sets l (r .at) (rewritten to (readsFrom from 0 (drop n left)))) (t .list ∙ ap (λ (b : Bool). cond b (sets out at (encode to e)) out) w)
-                ∙ sets-append (encode to e) _ out at (r .at) (t .place)
+            ap (λ (l : List ℕ). sets l next (rewritten to (readsFrom from 0 (drop n left)))) (t .list ∙ ap (λ (b : Bool). cond b (sets out at (encode to e)) out) w)
+                ∙ sets-append (encode to e) _ out at next placed
                 ∙ ap (sets out at) (sym bytes)
                 ∙ h .written w .1,
           );
         }
           where
-            ready : (b : Bool) → writing ≡ b → Ready (r .shape)
+            ready : (b : Bool) → writing ≡ b → Ready g′
             ready true w = rw (t .shape, w) (h .ready)
             ready false f = rw (tested-next f) (step-ready g e (h .ready) (λ z. any (ap (λ (s : Shape). s .left) (tested-next f) ∙ z)))
 

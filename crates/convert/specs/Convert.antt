@@ -20,13 +20,26 @@ other Narrow = Wide
 unfoldable pub converted : ℕ → ℕ → List ℕ → List ℕ
 converted from to run = runBytes to (Option·getD (decode from run) [])
 
--- what is answered, and what the room holds then
+-- 02's number of an answer, 0 where the run is converted
+unfoldable pub numberOf : Outcome → ℕ
+numberOf (Length n) = 0
+numberOf BadShape = 7
+numberOf NoRoom = 6
+
+-- the length of what is written, 0 of a refusal
+unfoldable pub lengthOf : Outcome → ℕ
+lengthOf (Length n) = n
+lengthOf BadShape = 0
+lengthOf NoRoom = 0
+
+-- the answer by numbers, and what the room holds then
 pub record Answer : Type 0 where
-  pub outcome : Outcome
+  pub number : ℕ
+  pub length : ℕ
   pub out : List ℕ
 
 abbrev pub answerOf : Outcome → List ℕ → Answer
-answerOf o out = record { outcome = o; out = out }
+answerOf o out = record { number = numberOf o; length = lengthOf o; out = out }
 
 -- what is converted stands at the room's start and the rest of the room is as it was; where it does not fit the whole room is
 unfoldable pub fitted : List ℕ → List ℕ → Answer

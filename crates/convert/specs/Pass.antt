@@ -14,7 +14,6 @@ use Rattle.strip.specs.Shape.{shapeOk}
 use Rattle.strip.specs.Pass.{stepped}
 use Rattle.convert.specs.declared.pass.Size.{Size}
 use Rattle.convert.specs.declared.pass.Size.the-variants as Size
-use Rattle.convert.specs.declared.turn.Next.{Next}
 use Rattle.convert.specs.Convert.{converted}
 
 -- the entries that were read, with references of so many bytes
@@ -24,9 +23,8 @@ rewritten to (Found e n ∷ rs) = encode to e ++ rewritten to rs
 rewritten to (Stop ∷ rs) = []
 
 -- a turn tests an entry, or writes it at a place of the room
-pub record Turns (to : ℕ) (g : Shape) (writing : Bool) (e : Entry) (out : List ℕ) (at : ℕ) (out′ : List ℕ) (r : Next) : Type 0 where
-  pub shape : r .shape ≡ cond writing g (stepped g e)
-  pub place : r .at ≡ at + length (encode to e)
+pub record Turns (to : ℕ) (g : Shape) (writing : Bool) (e : Entry) (out : List ℕ) (at : ℕ) (out′ : List ℕ) (r : Shape) : Type 0 where
+  pub shape : r ≡ cond writing g (stepped g e)
   pub list : out′ ≡ cond writing (sets out at (encode to e)) out
 
 -- the length of what a run becomes

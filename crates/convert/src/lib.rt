@@ -1,6 +1,5 @@
 // From one layout to the other (#102): the same strips, each reference in one byte instead of two or in two instead of one.
 mod pass;
-mod turn;
 
 ghost use mathlib.Core.Path.{_≡_};
 ghost use Rattle.convert.specs.Convert.{other, answerOf, conversion};

@@ -56,14 +56,6 @@ module _ (len : ℕ) where
   unfolding writtenList writtenAnswer hasRoom
   put s i e size q h p = let f = le-leb (i + length (encode len e)) (length s) (omega arith) in record { list = rw (p .is, f); says = rw (f, q) }
 
-  pub length-written : (s : List ℕ) (i : ℕ) (e : Entry) → length (writtenList len s i e) ≡ length s
-  unfolding writtenList
-  length-written s i e = go (hasRoom len s i e)
-    where
-      go : (b : Bool) → length (cond b (sets s i (encode len e)) s) ≡ length s
-      go true = length-sets s i (encode len e)
-      go false = refl
-
   -- what is written is read back, with its length: the writer and the reader agree
   pub read-written : (s s′ : List ℕ) (i n : ℕ) (e : Entry) → Formed len e → Writes len s i e s′ (Bytes n) → readEntry len (drop i s′) ≡ Found e n
   unfolding writtenList writtenAnswer hasRoom
@@ -83,6 +75,3 @@ module _ (len : ℕ) where
 pub in-room : {len : ℕ} {s s′ : List ℕ} {i : ℕ} {e : Entry} {r : Written} → Writes len s i e s′ r → i + length (encode len e) ≤ length s → s′ ≡ sets s i (encode len e)
 unfolding writtenList hasRoom
 in-room {len} {s} {s′} {i} {e} w h = rw (w .list, le-leb (i + length (encode len e)) (length s) h)
-
-pub length-kept : {len : ℕ} {s s′ : List ℕ} {i : ℕ} {e : Entry} {r : Written} → Writes len s i e s′ r → length s′ ≡ length s
-length-kept {len} {s} {s′} {i} {e} w = ap length (w .list) ∙ length-written len s i e

@@ -65,14 +65,14 @@ fn put_four_bytes(out: &mut [u8], at: usize, w: u32)
 // ---- entries, where there is room
 // One without references has the same bytes in every layout.
 
-pub fn put_bare(out: &mut [u8], at: usize, k: u8)
+fn put_bare(out: &mut [u8], at: usize, k: u8)
     requires { ⌜ at + 1 ≤ length (now out) ⌝ }
     ensures { λ _. ⌜ ((len : ℕ) → Puts (now (out .entry)) at (encode len (Entry.Bare k)) (now (out .exit))) ⌝ }
 {
     out[at] = k;
 }
 
-pub fn put_word(out: &mut [u8], at: usize, w: u32)
+fn put_word(out: &mut [u8], at: usize, w: u32)
     requires { ⌜ at + 5 ≤ length (now out) ⌝ }
     ensures { λ _. ⌜ ((len : ℕ) → Puts (now (out .entry)) at (encode len (Entry.Word w)) (now (out .exit))) ⌝ }
 {
@@ -80,7 +80,7 @@ pub fn put_word(out: &mut [u8], at: usize, w: u32)
     put_four_bytes(out, at + 1, w);
 }
 
-pub fn put_cell(out: &mut [u8], at: usize, k: u8, c: u8)
+fn put_cell(out: &mut [u8], at: usize, k: u8, c: u8)
     requires { ⌜ at + 2 ≤ length (now out) ⌝ }
     ensures { λ _. ⌜ ((len : ℕ) → Puts (now (out .entry)) at (encode len (Entry.Cell k c)) (now (out .exit))) ⌝ }
 {
@@ -88,7 +88,7 @@ pub fn put_cell(out: &mut [u8], at: usize, k: u8, c: u8)
     out[at + 1] = c;
 }
 
-pub fn put_store(out: &mut [u8], layout: Layout, at: usize, k: u8, c: u8, a: u16)
+fn put_store(out: &mut [u8], layout: Layout, at: usize, k: u8, c: u8, a: u16)
     requires { ⌜ at + (2 + refLength layout) ≤ length (now out) ⌝ }
     ensures { λ _. ⌜ Puts (now (out .entry)) at (encode (refLength layout) (Entry.Store k c a)) (now (out .exit)) ⌝ }
 {
@@ -97,7 +97,7 @@ pub fn put_store(out: &mut [u8], layout: Layout, at: usize, k: u8, c: u8, a: u16
     put_ref(out, layout, at + 2, a);
 }
 
-pub fn put_one(out: &mut [u8], layout: Layout, at: usize, k: u8, a: u16)
+fn put_one(out: &mut [u8], layout: Layout, at: usize, k: u8, a: u16)
     requires { ⌜ at + (1 + refLength layout) ≤ length (now out) ⌝ }
     ensures { λ _. ⌜ Puts (now (out .entry)) at (encode (refLength layout) (Entry.One k a)) (now (out .exit)) ⌝ }
 {
@@ -105,7 +105,7 @@ pub fn put_one(out: &mut [u8], layout: Layout, at: usize, k: u8, a: u16)
     put_ref(out, layout, at + 1, a);
 }
 
-pub fn put_two(out: &mut [u8], layout: Layout, at: usize, k: u8, a: u16, b: u16)
+fn put_two(out: &mut [u8], layout: Layout, at: usize, k: u8, a: u16, b: u16)
     requires { ⌜ at + (1 + refLength layout + refLength layout) ≤ length (now out) ⌝ }
     ensures { λ _. ⌜ Puts (now (out .entry)) at (encode (refLength layout) (Entry.Two k a b)) (now (out .exit)) ⌝ }
 {
@@ -115,7 +115,7 @@ pub fn put_two(out: &mut [u8], layout: Layout, at: usize, k: u8, a: u16, b: u16)
     put_ref(out, layout, at + 1 + n, b);
 }
 
-pub fn put_three(out: &mut [u8], layout: Layout, at: usize, k: u8, a: u16, b: u16, c: u16)
+fn put_three(out: &mut [u8], layout: Layout, at: usize, k: u8, a: u16, b: u16, c: u16)
     requires { ⌜ at + (1 + refLength layout + refLength layout + refLength layout) ≤ length (now out) ⌝ }
     ensures { λ _. ⌜ Puts (now (out .entry)) at (encode (refLength layout) (Entry.Three k a b c)) (now (out .exit)) ⌝ }
 {
@@ -126,7 +126,7 @@ pub fn put_three(out: &mut [u8], layout: Layout, at: usize, k: u8, a: u16, b: u1
     put_ref(out, layout, at + 1 + n + n, c);
 }
 
-pub fn put_four(out: &mut [u8], layout: Layout, at: usize, k: u8, a: u16, b: u16, c: u16, d: u16)
+fn put_four(out: &mut [u8], layout: Layout, at: usize, k: u8, a: u16, b: u16, c: u16, d: u16)
     requires { ⌜ at + (1 + refLength layout + refLength layout + refLength layout + refLength layout) ≤ length (now out) ⌝ }
     ensures { λ _. ⌜ Puts (now (out .entry)) at (encode (refLength layout) (Entry.Four k a b c d)) (now (out .exit)) ⌝ }
 {
@@ -136,6 +136,40 @@ pub fn put_four(out: &mut [u8], layout: Layout, at: usize, k: u8, a: u16, b: u16
     put_ref(out, layout, at + 1 + n, b);
     put_ref(out, layout, at + 1 + n + n, c);
     put_ref(out, layout, at + 1 + n + n + n, d);
+}
+
+// An entry, from place at on.
+pub fn put_entry(out: &mut [u8], layout: Layout, at: usize, e: Entry)
+    requires { ⌜ at + length (encode (refLength layout) e) ≤ length (now out) ⌝ }
+    ensures { λ _. ⌜ Puts (now (out .entry)) at (encode (refLength layout) e) (now (out .exit)) ⌝ }
+{
+    match e {
+        Entry::Bare(k) => put_bare(out, at, k),
+        Entry::Word(w) => put_word(out, at, w),
+        Entry::Cell(k, c) => put_cell(out, at, k, c),
+        Entry::Store(k, c, a) => put_store(out, layout, at, k, c, a),
+        Entry::One(k, a) => put_one(out, layout, at, k, a),
+        Entry::Two(k, a, b) => put_two(out, layout, at, k, a, b),
+        Entry::Three(k, a, b, c) => put_three(out, layout, at, k, a, b, c),
+        Entry::Four(k, a, b, c, d) => put_four(out, layout, at, k, a, b, c, d),
+    }
+}
+
+// How many bytes an entry takes.
+pub fn entry_length(layout: Layout, e: Entry) -> usize
+    ensures { λ r. ⌜ r ≡ length (encode (refLength layout) e) ⌝ }
+{
+    let n = ref_length(layout);
+    match e {
+        Entry::Bare(_) => 1,
+        Entry::Word(_) => 5,
+        Entry::Cell(_, _) => 2,
+        Entry::Store(_, _, _) => 2 + n,
+        Entry::One(_, _) => 1 + n,
+        Entry::Two(_, _, _) => 1 + 2 * n,
+        Entry::Three(_, _, _, _) => 1 + 3 * n,
+        Entry::Four(_, _, _, _, _) => 1 + 4 * n,
+    }
 }
 
 // ---- entries, as far as there is room
@@ -246,14 +280,10 @@ pub fn write_four(
 pub fn write_entry(out: &mut [u8], layout: Layout, at: usize, e: Entry) -> Written
     ensures { λ r. ⌜ Writes (refLength layout) (now (out .entry)) at e (now (out .exit)) r ⌝ }
 {
-    match e {
-        Entry::Bare(k) => write_bare(out, at, k),
-        Entry::Word(w) => write_word(out, at, w),
-        Entry::Cell(k, c) => write_cell(out, at, k, c),
-        Entry::Store(k, c, a) => write_store(out, layout, at, k, c, a),
-        Entry::One(k, a) => write_one(out, layout, at, k, a),
-        Entry::Two(k, a, b) => write_two(out, layout, at, k, a, b),
-        Entry::Three(k, a, b, c) => write_three(out, layout, at, k, a, b, c),
-        Entry::Four(k, a, b, c, d) => write_four(out, layout, at, k, a, b, c, d),
+    let n = entry_length(layout, e);
+    if left(out.len(), at) < n {
+        return Written::NoRoom;
     }
+    put_entry(out, layout, at, e);
+    Written::Bytes(n)
 }

@@ -1,13 +1,13 @@
 use mathlib.Core.Path.{_∙_, sym}
 use Rattle.convert.specs.declared.Outcome.the-variants.{Length, BadShape, NoRoom}
-use Rattle.convert_host.specs.Converted.{byOutcome}
+use Rattle.convert.specs.Convert.{numberOf, lengthOf}
 use Rattle.convert_host.proofs.Answers.{no-layout, told}
 use borrow.Author.Needs.{needs}
 use Rattle.convert_host.proofs.mehkura_convert.Statement.{statement}
 use Rattle.convert_host.proofs.mehkura_convert.Tie as tie
 
 pub mehkura-convert-spec : {M : Type 1} → statement M
-unfolding byOutcome
+unfolding numberOf lengthOf
 mehkura-convert-spec =
     tie.close
     (tie.spec

@@ -1,5 +1,5 @@
-use Prim.Native.Nat.{_≤_, _*_}
-use mathlib.Core.Path.{_≡_, refl, _∙_, sym}
+use Prim.Native.Nat.{ℕ, _+_, _*_, _≤_}
+use mathlib.Core.Path.{_≡_, refl, ap, _∙_, sym}
 use native.Mathlib.Omega.{arith}
 use lib.ListN.{length, length-drop}
 use Rattle.strip.specs.declared.format.Layout.{Layout}
@@ -46,14 +46,16 @@ pass-spec =
     (λ c. search needs)
     (λ c. c .before .before .before .before .loop .inv .kept)
     (λ c. stops _ _ (twice (c .before .before .before .before .before .before .before .before .args .from) (c .before .before .before .before .before .before .before .before .args .to)) _ _ _ (c .before .before .before .before .before .before .before .before .pre) _ _ _ _ (c .before .before .before .before .loop .inv) (sym (c .before .before .read-entry .ensures) ∙ c .enum-told .given .1) (c .before .before .before .loop-test .taken))
-    (λ c κs. (c .before .before .before .before .before .before .loop .inv .ready, taken (c .before .before) .body, omega (arith, in-range _ _ (twice (c .before .before .before .before .before .before .before .before .before .before .args .from) (c .before .before .before .before .before .before .before .before .before .before .args .to)) _ _ _ (c .before .before .before .before .before .before .before .before .before .before .pre) _ _ _ _ (c .before .before .before .before .before .before .loop .inv) _ _ (found-e (c .before .before)), c .before .before .before .before .before .before .before .before .before .before .good .0 .1), room _ _ (twice (c .before .before .before .before .before .before .before .before .before .before .args .from) (c .before .before .before .before .before .before .before .before .before .before .args .to)) _ _ _ (c .before .before .before .before .before .before .before .before .before .before .pre) _ _ _ _ (c .before .before .before .before .before .before .loop .inv) _ _ (found-e (c .before .before))))
-    (λ c. length-turned (c .before .before .before .before .turn .ensures) ∙ c .before .before .before .before .before .before .before .before .before .before .before .loop .inv .kept)
-    (λ c. stops-at _ _ (twice (c .before .before .before .before .before .before .before .before .before .before .before .before .before .before .before .args .from) (c .before .before .before .before .before .before .before .before .before .before .before .before .before .before .before .args .to)) _ _ _ (c .before .before .before .before .before .before .before .before .before .before .before .before .before .before .before .pre) _ _ _ _ (c .before .before .before .before .before .before .before .before .before .before .before .loop .inv) _ _ (found-e (c .before .before .before .before .before .before .before)) _ _ (c .before .before .before .before .turn .ensures) (c .if1 .taken))
+    (λ c κs. search needs)
+    (λ c. omega (arith, in-range _ _ (twice (c .before .before .before .before .before .before .before .before .before .before .args .from) (c .before .before .before .before .before .before .before .before .before .before .args .to)) _ _ _ (c .before .before .before .before .before .before .before .before .before .before .pre) _ _ _ _ (c .before .before .before .before .before .before .loop .inv) _ _ (found-e (c .before .before)), c .before .before .before .before .before .before .before .before .before .before .good .0 .1, c .entry-length .ensures))
+    (λ c κs. (c .before .before .before .before .before .before .before .loop .inv .ready, taken (c .before .before .before) .body, room _ _ (twice (c .before .before .before .before .before .before .before .before .before .before .before .args .from) (c .before .before .before .before .before .before .before .before .before .before .before .args .to)) _ _ _ (c .before .before .before .before .before .before .before .before .before .before .before .pre) _ _ _ _ (c .before .before .before .before .before .before .before .loop .inv) _ _ (found-e (c .before .before .before))))
+    (λ c. length-turned (c .before .before .before .turn .ensures) ∙ c .before .before .before .before .before .before .before .before .before .before .before .loop .inv .kept)
+    (λ c. stops-at _ _ (twice (c .before .before .before .before .before .before .before .before .before .before .before .before .before .before .before .args .from) (c .before .before .before .before .before .before .before .before .before .before .before .before .before .before .before .args .to)) _ _ _ (c .before .before .before .before .before .before .before .before .before .before .before .before .before .before .before .pre) _ _ _ _ (c .before .before .before .before .before .before .before .before .before .before .before .loop .inv) _ _ (found-e (c .before .before .before .before .before .before .before)) _ _ (c .before .before .before .turn .ensures) (c .if1 .taken))
     (λ c. taken (c .before .before .before .before .before .before .before) .within)
     (λ c. taken (c .before .before .before .before .before .before .before) .within)
     (λ c. search needs)
     (λ c. let t = taken (c .before .before .before .before .before .before .before .before) in rw (part-rest, length-drop) (omega (arith, t .forward, t .within)))
-    (λ c. rw part-rest (goes-on _ _ (twice (c .before .before .before .before .before .before .before .before .before .before .before .before .before .before .before .before .args .from) (c .before .before .before .before .before .before .before .before .before .before .before .before .before .before .before .before .args .to)) _ _ _ (c .before .before .before .before .before .before .before .before .before .before .before .before .before .before .before .before .pre) _ _ _ _ (c .before .before .before .before .before .before .before .before .before .before .before .before .loop .inv) _ _ (found-e (c .before .before .before .before .before .before .before .before)) _ _ (c .before .before .before .before .before .turn .ensures) (c .before .if1 .left)))
+    (λ c. rw part-rest (goes-on _ _ (twice (c .before .before .before .before .before .before .before .before .before .before .before .before .before .before .before .before .args .from) (c .before .before .before .before .before .before .before .before .before .before .before .before .before .before .before .before .args .to)) _ _ _ (c .before .before .before .before .before .before .before .before .before .before .before .before .before .before .before .before .pre) _ _ _ _ (c .before .before .before .before .before .before .before .before .before .before .before .before .loop .inv) _ _ (found-e (c .before .before .before .before .before .before .before .before)) _ _ (c .before .before .before .before .turn .ensures) _ (ap (λ (n : ℕ). c .before .before .before .before .before .before .before .before .before .before .before .before .loop .at + n) (c .before .before .before .before .before .before .entry-length .ensures)) (c .before .if1 .left)))
     (λ c. c .before .before .loop .inv .kept)
     (λ c. finished _ _ (twice (c .before .before .before .before .before .before .args .from) (c .before .before .before .before .before .before .args .to)) _ _ _ (c .before .before .before .before .before .before .pre) _ _ _ _ (c .before .before .loop .inv) (c .before .loop-test .left) (c .if2 .taken))
     (λ c. c .before .before .loop .inv .kept)
