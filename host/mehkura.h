@@ -5,7 +5,7 @@
  * allocates or touches anything else; all may be called from several threads at once.
  *
  * Each answers a number of enum mehkura_answer. A refused call leaves everything that it was lent as it was, byte for byte, but for the three numbers
- * that say where 9 was met.
+ * that say where 9 was met and for what mehkura_shape_block says of its 7.
  */
 #ifndef MEHKURA_H
 #define MEHKURA_H
@@ -32,6 +32,7 @@ enum {
     MEHKURA_ANY_STRIP = 255,
     MEHKURA_MARKS = 128,
     MEHKURA_REGISTERS = 255,
+    MEHKURA_SHAPE_STATE = 45, /* of a shape test block by block */
     MEHKURA_TRUTHS = 11, /* the predicates 0 to 6, then the flags Z, S, C, O */
     MEHKURA_CELLS = 298  /* the registers, then predicates, flags and 32 constant slots from these places on: */
 };
@@ -54,6 +55,31 @@ uint32_t mehkura_translate(const uint8_t *record, size_t record_len, uint8_t *ma
 
 /* Whether a run is well-formed in the layout. Answers 0 or 7. */
 uint32_t mehkura_shape(const uint8_t *run, size_t run_len, uint32_t layout);
+
+/* The same test block by block, for a run that comes in pieces or is longer than memory. The caller lends a state of MEHKURA_SHAPE_STATE bytes, begins
+ * the test, hands over the blocks in order, however the run is cut, and asks at the end:
+ *
+ *     uint8_t state[MEHKURA_SHAPE_STATE];
+ *     uint32_t number = mehkura_shape_begin(state, sizeof state, MEHKURA_WIDE);
+ *     for (each block) number = mehkura_shape_block(state, sizeof state, block, block_len, &passed, &strips);
+ *     number = mehkura_shape_end(state, sizeof state);
+ *
+ * The state holds what the next bytes need, those of an entry that a block has cut among them; its length does not hang on the run, nor its bytes on
+ * how the run was cut. It may be copied and kept. Bytes that do not fit together as one are taken for a test that has refused. A state of another length
+ * is answered with 7 by all three, and nothing is touched then.
+ *
+ * Begins a test in the layout. Answers 0, or 7 where the layout has another number. */
+uint32_t mehkura_shape_begin(uint8_t *state, size_t state_len, uint32_t layout);
+
+/* Goes on with the next bytes of the run. *passed becomes how many bytes were passed by this call, an entry's when it is whole, so those of an entry
+ * that earlier blocks have begun too; *strips how many strips ended. Answers 0, or 7 where an entry cannot be passed. With 7 the state becomes that of
+ * a test that has refused, and each later call with it answers 7 and passes nothing: the sum of *passed over all calls is where the entry starts that
+ * was refused. */
+uint32_t mehkura_shape_block(uint8_t *state, size_t state_len, const uint8_t *block, size_t block_len, size_t *passed, size_t *strips);
+
+/* Whether what was handed over is a well-formed run. Answers 0, or 7 where it was refused, ends in the middle of an entry, or has a last strip with no
+ * end. */
+uint32_t mehkura_shape_end(const uint8_t *state, size_t state_len);
 
 /* Which cells at the start of a wide run can matter to the listed ones at its end, in place: a byte for each cell, listed where it is not 0, answered
  * as 0 or 1. Answers 0 or 7. */

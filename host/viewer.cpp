@@ -1,8 +1,9 @@
 // What a viewer does with Mehkura: translates the samples into one room, asks what can matter, evaluates the run, keeps a shelf copy of each sample,
-// and tries every refusal. Writes a line for each part, and ends with 1 at the first thing that is not as it must be. One argument: the folder of the
-// samples.
+// tests each block by block, and tries every refusal. Writes a line for each part, and ends with 1 at the first thing that is not as it must be. One
+// argument: the folder of the samples.
 #include "mehkura.h"
 
+#include <algorithm>
 #include <array>
 #include <cstdio>
 #include <cstdlib>
@@ -364,10 +365,12 @@ Bytes shelved(const Bytes &bytes) {
     return kept;
 }
 
+constexpr const char *sample_names[] = {"count", "conditions", "constants", "two_records"};
+
 // Each sample on the shelf: its run is kept in the narrow layout, read back, and evaluates as the wide one does.
 void shelf(const std::string &samples) {
     size_t wide = 0, narrow = 0;
-    for (const char *name : {"count", "conditions", "constants", "two_records"}) {
+    for (const char *name : sample_names) {
         const Bytes run = work(samples + "/" + name + ".bin").run();
         const Bytes kept = shelved(converted(run, MEHKURA_WIDE));
         check(kept.size() < run.size(), "the shelf copy is shorter");
@@ -426,6 +429,131 @@ void conversions() {
     std::puts("conversions: refusals 7 and 6, bytes that mean two things");
 }
 
+// A shape test block by block, and what was passed and has ended in all.
+struct Test {
+    Bytes state;
+    size_t passed = 0, strips = 0;
+
+    explicit Test(uint32_t layout) : state(MEHKURA_SHAPE_STATE, unused) {
+        check(mehkura_shape_begin(state.data(), state.size(), layout) == 0, "a test begins");
+    }
+
+    uint32_t add(const Bytes &block) {
+        size_t bytes = 77, ends = 77;
+        uint32_t number = mehkura_shape_block(state.data(), state.size(), start(block), block.size(), &bytes, &ends);
+        passed += bytes;
+        strips += ends;
+        return number;
+    }
+
+    // Hands over bytes in blocks of so many, each a list of its own; the last number. Nothing is passed after a refusal.
+    uint32_t add(const Bytes &bytes, size_t size) {
+        uint32_t number = 0;
+        for (size_t at = 0; at < bytes.size(); at += size) {
+            const Test before = *this;
+            const auto from = bytes.begin() + static_cast<long>(at);
+            const uint32_t next = add(Bytes(from, from + static_cast<long>(std::min(size, bytes.size() - at))));
+            if (number)
+                check(next == 7 && passed == before.passed && strips == before.strips && state == before.state, "a refused test stays refused");
+            number = next;
+        }
+        return number;
+    }
+
+    uint32_t end() const { return mehkura_shape_end(state.data(), state.size()); }
+};
+
+// The sizes of blocks: entries are cut, strips are cut, nothing is cut.
+constexpr size_t block_sizes[] = {1, 7, 4096};
+
+// A run in blocks: it is refused at this byte, and is no run for mehkura_shape either.
+void refused_at(const Bytes &run, uint32_t layout, size_t byte, const std::string &what) {
+    check(mehkura_shape(start(run), run.size(), layout) == 7, what);
+    for (size_t size : block_sizes) {
+        Test test(layout);
+        check(test.add(run, size) == 7 && test.passed == byte, what + ": the byte where the entry starts");
+        const Test before = test;
+        check(test.add({0xff}) == 7 && test.add({}) == 7 && test.passed == byte && test.state == before.state, what + ": it stays refused");
+        check(test.end() == 7, what + ": no run at the end");
+    }
+}
+
+// A run, which has so many strips, in blocks of each size, and cut everywhere.
+void in_blocks(const Bytes &run, uint32_t layout, size_t strips) {
+    Test whole(layout);
+    check(whole.add(run) == 0, "a run in one block");
+    for (size_t size : block_sizes) {
+        Test test(layout);
+        check(test.add(run, size) == 0 && test.end() == mehkura_shape(start(run), run.size(), layout), "block by block as at once");
+        check(test.passed == run.size() && test.strips == strips, "all is passed, with a strip for each record");
+        check(test.state == whole.state, "the same state however the run is cut");
+    }
+    for (size_t n = 0; n <= run.size(); ++n) {
+        const auto middle = run.begin() + static_cast<long>(n);
+        const Bytes first(run.begin(), middle), second(middle, run.end());
+        Test test(layout);
+        check(test.add(first) == 0 && test.end() == mehkura_shape(start(first), n, layout), "the first bytes, block by block as at once");
+        check(test.passed <= n && n <= test.passed + 8, "an entry that is cut is not passed");
+        // the state may be kept
+        Test kept = test;
+        check(test.add({}) == 0 && test.state == kept.state, "a block of no bytes changes nothing");
+        check(kept.add(second) == 0 && kept.end() == 0 && kept.passed == run.size() && kept.strips == strips, "and the bytes after them");
+        check(kept.state == whole.state, "the same state wherever the run is cut");
+    }
+}
+
+// The shape test block by block: each sample in both layouts, and every refusal.
+void blocks(const std::string &samples) {
+    // true, stored to predicate 0: an entry of one byte, one of four or three, the end
+    const Bytes wide{2, 8, 0, 0, 0, 0xff}, narrow{2, 8, 0, 0, 0xff};
+    for (const char *name : sample_names) {
+        const std::string path = samples + "/" + name + ".bin";
+        const Bytes run = work(path).run(), kept = converted(run, MEHKURA_WIDE);
+        const size_t strips = file(path).size() / MEHKURA_RECORD;
+        in_blocks(run, MEHKURA_WIDE, strips);
+        in_blocks(kept, MEHKURA_NARROW, strips);
+        // a bad entry in the middle: register 255, an unknown kind, a narrow store in a wide run, and the other way round
+        refused_at(joined(joined(run, {2, 4, 255, 0xff}), run), MEHKURA_WIDE, run.size() + 1, "7 for a register that is none");
+        refused_at(joined(joined(kept, {0}), kept), MEHKURA_NARROW, kept.size(), "7 for an unknown kind");
+        refused_at(joined(joined(run, narrow), run), MEHKURA_WIDE, run.size() + 1, "7 for a narrow strip in a wide run");
+        refused_at(joined(joined(kept, wide), kept), MEHKURA_NARROW, kept.size() + 4, "7 for a wide strip in a narrow run");
+        // an entry that is cut, and a strip with no end: nothing is refused before the end
+        for (size_t n = 1; n < wide.size(); ++n) {
+            Test test(MEHKURA_WIDE);
+            const Bytes cut = joined(run, Bytes(wide.begin(), wide.begin() + static_cast<long>(n)));
+            check(test.add(cut, 7) == 0 && test.end() == 7, "7 at the end of a run that is cut");
+            check(test.passed == run.size() + (n < 5 ? 1 : 5) && test.strips == strips, "passed up to the entry that is cut");
+        }
+    }
+
+    // an entry is refused when it is whole, though its predicate 7 is none
+    Test late(MEHKURA_WIDE);
+    check(late.add({2, 8, 7, 0}) == 0 && late.passed == 1 && late.add({0, 0xff}) == 7 && late.passed == 1, "7 when the entry is whole");
+
+    // a layout that is none, a state of another length: all as it was
+    for (uint32_t layout : no_layouts) {
+        Bytes state(MEHKURA_SHAPE_STATE, unused);
+        const Bytes before = state;
+        check(mehkura_shape_begin(state.data(), state.size(), layout) == 7 && state == before, "7 for a layout that is none");
+    }
+    for (size_t n : {0, 1, 44, 46, 90}) {
+        Bytes state(n, unused);
+        const Bytes before = state;
+        size_t passed = 77, strips = 77;
+        check(mehkura_shape_begin(start(state), n, MEHKURA_WIDE) == 7, "7 for a state of another length");
+        check(mehkura_shape_block(start(state), n, wide.data(), wide.size(), &passed, &strips) == 7, "7 for a block with it");
+        check(mehkura_shape_end(start(state), n) == 7, "7 for its end");
+        check(state == before && passed == 77 && strips == 77, "all as it was");
+    }
+    // bytes that do not fit together as a state
+    for (uint8_t byte : {unused, uint8_t(0xff)}) {
+        Test test(MEHKURA_WIDE);
+        test.state.assign(MEHKURA_SHAPE_STATE, byte);
+        check(test.end() == 7 && test.add(wide) == 7 && test.passed == 0 && test.strips == 0 && test.end() == 7, "7 for a state that is none");
+    }
+    std::puts("blocks: the samples in blocks of 1, 7 and 4096 bytes in both layouts, refusal 7 at its byte");
+}
+
 } // namespace
 
 int main(int argc, char **argv) {
@@ -434,6 +562,7 @@ int main(int argc, char **argv) {
     evaluations();
     conversions();
     shelf(samples);
+    blocks(samples);
     one_room(samples);
     count(samples);
     conditions(samples);

@@ -2,7 +2,7 @@
 //!
 //! This is the partner of the ported converter in comparisons of answers and of speed.
 
-use crate::format::{Layout, NARROW, Rest, WIDE, entry_lens};
+use crate::format::{ENTRY_LENS, Layout, NARROW, Rest, WIDE};
 use crate::shape::{Watch, shape_ok, shape_ok_watched};
 
 /// Writes the run in the other layout at the start of `room` and gives its length there, or gives the refusal number: 7
@@ -21,7 +21,7 @@ pub fn convert_plain(run: &[u8], layout: Layout, room: &mut [u8]) -> Result<usiz
     if !shape_ok(run, layout) {
         return Err(7);
     }
-    let (from, to) = (&LENS[layout as usize], &LENS[layout.other() as usize]);
+    let (from, to) = (&ENTRY_LENS[layout as usize], &ENTRY_LENS[layout.other() as usize]);
     let (mut rest, mut len) = (run, 0);
     while let Some(&kind) = rest.first() {
         len += usize::from(to[usize::from(kind)]);
@@ -32,9 +32,6 @@ pub fn convert_plain(run: &[u8], layout: Layout, room: &mut [u8]) -> Result<usiz
         Layout::Narrow => write_run::<NARROW, WIDE>(run, room, len),
     }
 }
-
-/// Bytes of an entry of each kind, by layout.
-const LENS: [[u8; 256]; 2] = [entry_lens(WIDE), entry_lens(NARROW)];
 
 /// How many references a run has.
 struct Refs(usize);

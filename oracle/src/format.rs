@@ -160,6 +160,9 @@ pub(crate) const fn entry_lens(ref_len: usize) -> [u8; 256] {
     lens
 }
 
+/// The same for each layout, by its number.
+pub const ENTRY_LENS: [[u8; 256]; Layout::ALL.len()] = [entry_lens(WIDE), entry_lens(NARROW)];
+
 /// The bytes of a run that are not read yet. A reference takes `REF` of them.
 #[derive(Clone, Copy)]
 pub(crate) struct Rest<'a, const REF: usize>(pub &'a [u8]);

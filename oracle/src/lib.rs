@@ -6,9 +6,10 @@
 //! - [`mod@meaning`] says what a record does to a state, without any strip.
 //! - [`generate`] makes random records, [`strips`] random strips, [`starts`] random states and lists of constants,
 //!   [`vectors`] the stored list of answers, [`cases`] hand-made runs with theirs, [`works`] the lines of the two works.
-//! - [`mod@print`] is the strip printer.
+//! - [`mod@print`] is the strip printer, [`mod@check`] the run checker.
 
 pub mod cases;
+pub mod check;
 pub mod convert;
 pub mod evaluate;
 pub mod extraction;

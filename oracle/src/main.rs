@@ -3,11 +3,11 @@
 use std::io::{self, BufReader, BufWriter, Write};
 use std::process::ExitCode;
 
-use oracle::format::{Layout, encode, value_count};
+use oracle::format::{Entry, Layout, encode, value_count};
 use oracle::generate::{random_admitted, random_record};
 use oracle::record::NAMES;
 use oracle::rng::Rng;
-use oracle::{SLOTS, cases, print, translate_entries, vectors, works};
+use oracle::{SLOTS, cases, check, print, translate_entries, vectors, works};
 
 const HELP: &str = "\
 oracle: the unchanged text of the reference translator, run over recording stand-ins
@@ -18,6 +18,11 @@ Usage:
       lowercase hex, or `refused N`. Stops after refusal 1 (a cut last record) or 2.
       --marks adds a column: the use marks after the record that are not 0, as slot:mark in decimal joined by commas,
       or `-` if all are 0. The marks start at 0 and are carried from record to record.
+  oracle check-run [--narrow]
+      Reads a run of strips from standard input in blocks of 65,536 bytes, in constant memory, and prints one line:
+      `well-formed, N strips`, or `refused 7 at byte B`, where B counts the bytes before the entry that is refused or
+      cut; where the last strip has no end, it is the length of the input.
+      --narrow says that the run is in the narrow layout.
   oracle gen SEED COUNT [--admitted]
       Writes COUNT random records to standard output. The same seed gives the same records.
       --admitted writes only records that are not refused.
@@ -40,6 +45,9 @@ Usage:
   oracle narrow COUNT SEED
       Translates COUNT random admitted records and prints how many bytes their strips have in the wide and in the
       narrow layout, and what the narrow one saves.
+  oracle strips COUNT SEED [--narrow]
+      Writes the strips of COUNT random admitted records to standard output, as one run in the wide layout.
+      --narrow writes it in the narrow layout.
   oracle help | --help | -h
       Prints this text.
 
@@ -82,6 +90,8 @@ fn run(args: &[&str]) -> Result<(), Failure> {
         ["help" | "--help" | "-h"] => write_all(output, HELP.as_bytes()),
         ["print"] => Ok(print::print(BufReader::new(io::stdin().lock()), output, false)?),
         ["print", "--marks"] => Ok(print::print(BufReader::new(io::stdin().lock()), output, true)?),
+        ["check-run"] => Ok(check::check(io::stdin().lock(), output, Layout::Wide)?),
+        ["check-run", "--narrow"] => Ok(check::check(io::stdin().lock(), output, Layout::Narrow)?),
         ["gen", seed, count] => generate(output, number(seed)?, number(count)?, false),
         ["gen", seed, count, "--admitted"] | ["gen", "--admitted", seed, count] => {
             generate(output, number(seed)?, number(count)?, true)
@@ -93,10 +103,15 @@ fn run(args: &[&str]) -> Result<(), Failure> {
         ["works", "--records"] => write_all(output, &works::input()),
         ["count", count, seed] => statistics(output, number(count)?, number(seed)?),
         ["narrow", count, seed] => narrow(output, number(count)?, number(seed)?),
-        [] => Err(Failure::Usage("no command".to_owned())),
-        [command @ ("print" | "gen" | "vectors" | "cases" | "works" | "count" | "narrow"), ..] => {
-            Err(Failure::Usage(format!("wrong arguments for `{command}`")))
+        ["strips", count, seed] => strips(output, number(count)?, number(seed)?, Layout::Wide),
+        ["strips", count, seed, "--narrow"] | ["strips", "--narrow", count, seed] => {
+            strips(output, number(count)?, number(seed)?, Layout::Narrow)
         }
+        [] => Err(Failure::Usage("no command".to_owned())),
+        [
+            command @ ("print" | "check-run" | "gen" | "vectors" | "cases" | "works" | "count" | "narrow" | "strips"),
+            ..,
+        ] => Err(Failure::Usage(format!("wrong arguments for `{command}`"))),
         [command, ..] => Err(Failure::Usage(format!("no command `{command}`"))),
     }
 }
@@ -177,13 +192,26 @@ fn statistics(mut output: impl Write, count: u64, seed: u64) -> Result<(), Failu
     Ok(output.flush()?)
 }
 
-fn narrow(mut output: impl Write, count: u64, seed: u64) -> Result<(), Failure> {
+/// The strips of random admitted records.
+fn random_strips(count: u64, seed: u64) -> impl Iterator<Item = Vec<Entry>> {
     let mut rng = Rng::new(seed);
     let mut marks = [0; SLOTS];
-    let (mut wide, mut narrow) = (0, 0);
-    for _ in 0..count {
+    (0..count).map(move |_| {
         let record = random_admitted(&mut rng).to_bytes();
-        let entries = translate_entries(&record, &mut marks).expect("an admitted record");
+        translate_entries(&record, &mut marks).expect("an admitted record")
+    })
+}
+
+fn strips(mut output: impl Write, count: u64, seed: u64, layout: Layout) -> Result<(), Failure> {
+    for entries in random_strips(count, seed) {
+        output.write_all(&encode(&entries, layout))?;
+    }
+    Ok(output.flush()?)
+}
+
+fn narrow(mut output: impl Write, count: u64, seed: u64) -> Result<(), Failure> {
+    let (mut wide, mut narrow) = (0, 0);
+    for entries in random_strips(count, seed) {
         wide += encode(&entries, Layout::Wide).len();
         narrow += encode(&entries, Layout::Narrow).len();
     }

@@ -1,9 +1,10 @@
-//! The shape test, cause by cause and on both sides of each limit, and against a second, slower definition.
+//! The shape test, cause by cause and on both sides of each limit, and against a second, slower definition. Every run is
+//! tested as a whole and in blocks.
 
 use oracle::format::{Immediate, Layout, Value, encode, kind, signature};
 use oracle::generate::random_admitted;
 use oracle::rng::Rng;
-use oracle::shape::shape_ok;
+use oracle::shape::{Blocks, Fed, shape_ok};
 use oracle::strips::{damage, near_miss, random_bytes, random_strip};
 use oracle::{SLOTS, translate_entries};
 
@@ -23,12 +24,29 @@ fn bad(hex: &str) {
     assert!(!well_formed(&bytes(hex), Layout::Wide), "{hex}");
 }
 
-/// The verdict, by both definitions.
+/// The verdict, by both definitions and in blocks of some sizes.
 #[track_caller]
 fn well_formed(run: &[u8], layout: Layout) -> bool {
     let verdict = shape_ok(run, layout);
     assert_eq!(verdict, by_causes(run, layout), "{layout:?} {run:02x?}");
+    for size in [1, 3, 8] {
+        let (_, ends) = in_blocks(run.chunks(size), layout);
+        assert_eq!(ends, verdict, "{layout:?} {run:02x?} in blocks of {size}");
+    }
     verdict
+}
+
+/// All that blocks led to, one after another, and whether the run ends after them.
+#[track_caller]
+fn in_blocks<'a>(run: impl Iterator<Item = &'a [u8]>, layout: Layout) -> (Fed, bool) {
+    let mut blocks = Blocks::new(layout);
+    let mut all = Fed::default();
+    for block in run {
+        let fed = blocks.feed(block);
+        assert!(!all.refused || fed == Fed { refused: true, ..Fed::default() }, "a refused run stays refused");
+        all = Fed { passed: all.passed + fed.passed, strips: all.strips + fed.strips, refused: fed.refused };
+    }
+    (all, blocks.ends())
 }
 
 #[test]
@@ -329,9 +347,12 @@ fn references_fit(strip: &[Parsed]) -> bool {
     true
 }
 
+fn places(strip: &[Parsed], kind: u8) -> Vec<usize> {
+    (0..strip.len()).filter(|&at| strip[at].kind == kind).collect()
+}
+
 fn block_fits(strip: &[Parsed]) -> bool {
-    let places = |kind: u8| -> Vec<usize> { (0..strip.len()).filter(|&at| strip[at].kind == kind).collect() };
-    match (&places(kind::OPEN)[..], &places(kind::CLOSE)[..]) {
+    match (&places(strip, kind::OPEN)[..], &places(strip, kind::CLOSE)[..]) {
         ([], []) => true,
         ([open], [close]) => open < close && close + 2 == strip.len(),
         _ => false,
@@ -373,6 +394,142 @@ fn the_two_definitions_agree() {
                 well_formed(&[a, b], layout);
             }
         }
+    }
+}
+
+// The same for what is passed: entry by entry, whether it may stand where it does.
+
+/// Bytes and strips that are passed, and whether an entry is refused.
+fn passed_by_causes(run: &[u8], layout: Layout) -> Fed {
+    let mut fed = Fed::default();
+    let mut strip = Vec::new();
+    let mut rest = run;
+    while let Some(kind) = rest.first() {
+        match parse(&mut rest, layout) {
+            Some(entry) => strip.push(entry),
+            // Of no kind, or cut.
+            None => return Fed { refused: signature(*kind).is_none(), ..fed },
+        }
+        if !(immediates_fit(&strip) && references_fit(&strip) && last_may_stand(&strip)) {
+            return Fed { refused: true, ..fed };
+        }
+        fed.passed = run.len() - rest.len();
+        if *kind == kind::END {
+            fed.strips += 1;
+            strip.clear();
+        }
+    }
+    fed
+}
+
+/// As to the number of entries, the block and the end.
+fn last_may_stand(strip: &[Parsed]) -> bool {
+    let last = strip.len() - 1;
+    let ends = strip[last].kind == kind::END;
+    let block = match (&places(strip, kind::OPEN)[..], &places(strip, kind::CLOSE)[..]) {
+        ([], []) => true,
+        ([_], []) => !ends,
+        ([open], [close]) => open < close && (*close == last || close + 1 == last && ends),
+        _ => false,
+    };
+    block && (strip.len() < 64 || strip.len() == 64 && ends)
+}
+
+#[test]
+fn what_is_passed_does_not_hang_on_the_blocks() {
+    let mut rng = Rng::new(5);
+    for layout in Layout::ALL {
+        let mut refused = 0;
+        for _ in 0..3_000 {
+            let entries = random_strip(&mut rng);
+            let mut run = encode(&random_strip(&mut rng), layout);
+            run.extend(match rng.below(4) {
+                0 => encode(&entries, layout),
+                1 => random_bytes(&mut rng),
+                _ => near_miss(&mut rng, entries, layout),
+            });
+            if rng.one_in(2) {
+                damage(&mut rng, &mut run);
+            }
+            let right = passed_by_causes(&run, layout);
+            refused += u32::from(right.refused);
+            for size in 1..=10 {
+                let (fed, _) = in_blocks(run.chunks(size), layout);
+                assert_eq!(fed, right, "{layout:?} {run:02x?} in blocks of {size}");
+            }
+            // Blocks of any size, also of no bytes.
+            let mut rest = &run[..];
+            let block = || {
+                let size = rng.below(12).min(rest.len());
+                rest.split_off(..size).filter(|block| !block.is_empty() || !rest.is_empty())
+            };
+            let (fed, ends) = in_blocks(std::iter::from_fn(block), layout);
+            assert_eq!((fed, ends), (right, by_causes(&run, layout)), "{layout:?} {run:02x?}");
+        }
+        assert!((1_000..2_500).contains(&refused), "{refused}");
+    }
+}
+
+/// What each block leads to: bytes passed, strips ended, refused.
+#[track_caller]
+fn feeds(layout: Layout, blocks: &[(&str, (usize, usize, bool))], ends: bool) {
+    let mut test = Blocks::new(layout);
+    for (at, &(block, (passed, strips, refused))) in blocks.iter().enumerate() {
+        assert_eq!(test.feed(&bytes(block)), Fed { passed, strips, refused }, "block {at}: {block}");
+    }
+    assert_eq!(test.ends(), ends);
+}
+
+#[test]
+fn entries_are_passed_when_they_are_whole() {
+    let (wide, narrow) = (Layout::Wide, Layout::Narrow);
+    feeds(wide, &[], true);
+    feeds(wide, &[("", (0, 0, false))], true);
+    feeds(wide, &[("ff", (1, 1, false)), ("", (0, 0, false)), ("ff ff", (2, 2, false))], true);
+    feeds(wide, &[("02", (1, 0, false)), ("ff", (1, 1, false))], true);
+    feeds(wide, &[("ff 02", (2, 1, false))], false);
+    feeds(
+        wide,
+        &[("02 01", (1, 0, false)), ("000000", (0, 0, false)), ("", (0, 0, false)), ("00", (5, 0, false))],
+        false,
+    );
+    // The longest entry, cut at each of its bytes.
+    let start = "0a 00 04 00";
+    let address = "0b 0000 0100 0100 0100";
+    let digits: String = address.split(' ').collect();
+    for cut in 1..9 {
+        let (first, second) = digits.split_at(2 * cut);
+        feeds(
+            wide,
+            &[(&format!("{start} {first}"), (4, 0, false)), (&format!("{second} ff ff"), (11, 2, false))],
+            true,
+        );
+    }
+    feeds(narrow, &[("0a 00 04 00 0b 00 01 01", (4, 0, false)), ("01 ff 02", (7, 1, false))], false);
+}
+
+#[test]
+fn entries_are_refused_when_they_are_whole() {
+    let layout = Layout::Wide;
+    let refused = (0, 0, true);
+    // An unknown kind has no more bytes to wait for.
+    feeds(layout, &[("02 00", (1, 0, true)), ("ff", refused), ("", refused)], false);
+    feeds(layout, &[("02 ff", (2, 1, false)), ("02 0d", (1, 0, true)), ("", refused)], false);
+    // A cell out of range in a store whose reference is not there yet.
+    feeds(layout, &[("02 04 00 08 07", (3, 0, false)), ("00", (0, 0, false)), ("00 ff", refused)], false);
+    feeds(layout, &[("02 ff 28 ff", (2, 1, false)), ("ff ff", (0, 0, false)), ("ff", refused), ("ff", refused)], false);
+    // After the close, and where a strip has 63 entries, whatever is not the end.
+    feeds(layout, &[("02 64 0000 65", (5, 0, false)), ("01", (0, 0, false)), ("00000000", refused)], false);
+    feeds(layout, &[("02 64 0000 65", (5, 0, false)), ("65", refused)], false);
+    feeds(layout, &[("02 64 0000 65", (5, 0, false)), ("", (0, 0, false)), ("ff", (1, 1, false))], true);
+    let most = "02".repeat(63);
+    feeds(layout, &[(&most, (63, 0, false)), ("02", refused)], false);
+    feeds(layout, &[(&most, (63, 0, false)), ("04", (0, 0, false)), ("00", refused)], false);
+    feeds(layout, &[(&most, (63, 0, false)), ("ff", (1, 1, false))], true);
+    // The block is open where a 64th entry must come, and neither close nor end may.
+    let open = format!("02 64 0000 {}", "03".repeat(61));
+    for last in ["65", "ff"] {
+        feeds(layout, &[(&open, (65, 0, false)), (last, refused)], false);
     }
 }
 

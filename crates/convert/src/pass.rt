@@ -24,7 +24,7 @@ fn turn(g: Shape, to: Layout, out: &mut [u8], at: usize, writing: bool, e: Entry
         strip::put_entry(out, to, at, e);
         return g;
     }
-    g.step(e)
+    g.entry(e)
 }
 
 // How many bytes the run takes in the other layout; or that it is not well-formed.

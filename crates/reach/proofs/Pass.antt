@@ -23,9 +23,9 @@ use Rattle.strip.specs.Shape.{isOpen, isEnd, joined, cutAtEnds, decode, allOk, 
 use Rattle.strip.specs.Pass.{Ready, fresh, refusedShape, with, pushed, placed, opened, closed, after, entryOk, stepped, passFrom}
 use Rattle.strip.specs.Pass as Shape
 use Rattle.strip.proofs.Read.{Turn}
-use Rattle.strip.proofs.Pass.{pass-shape, pass-stop, pass-refused, pass-taken, ready-fresh, step-ready}
+use Rattle.strip.proofs.Pass.{pass-shape, pass-stop, pass-refused, pass-taken, ready-fresh, step-ready, left-falls}
 use Rattle.evaluation.specs.Cells.{stores, loads}
-use Rattle.evaluation.proofs.Flat.{end-is}
+use Rattle.strip.proofs.Steps.{end-is}
 use Rattle.reach.specs.declared.cells.Cells.{Cells}
 use Rattle.reach.specs.declared.walk.StripSummary.{StripSummary}
 use Rattle.reach.specs.Reach.{any, reachStrips}
@@ -131,24 +131,6 @@ module _ (t cs : List ℕ) (s : StripSummary) (kept : Lengths t cs) (few : s .co
       ∙ ap (λ (u : Bool). rest (column t′ d) u (λ x. false) false ss c) (sym (ap (λ (z : List ℕ). inRow z 298 d) p ∙ ended-bit 298 d l))
 
 -- ---- the room for the cells that a strip stores: each entry takes one of those that may come
-pub left-falls : (g : Shape) (e : Entry) → Ready g → isEnd e ≡ false → stepped g e .left < g .left
-unfolding stepped after opened closed placed pushed
-left-falls g e r p = rw p (go (entryOk g e) (eqb (kindOf e) 100) (eqb (kindOf e) 101) (g .inside) (ltb (g .left) 2) refl (eqb (formatOf (kindOf e) .result) 0))
-  where
-    any : 1 ≤ g .left
-    any = r .left
-
-    go : (f o c i l : Bool) → ltb (g .left) 2 ≡ l → (z : Bool)
-        → cond f (cond o (cond i refusedShape (with g (g .left - 1) true)) (cond c (cond i (with g (cond l 0 1) false) refusedShape) (cond z (Shape.counted g) (pushed (Shape.counted g) (formatOf (kindOf e) .result))))) refusedShape .left < g .left
-    go false o c i l q z = any
-    go true true c true l q z = any
-    go true true c false l q z = omega (arith, any)
-    go true false true true true q z = any
-    go true false true true false q z = omega (arith, ltb-false (g .left) 2 q)
-    go true false true false l q z = any
-    go true false false i l q true = omega (arith, any)
-    go true false false i l q false = omega (arith, any)
-
 counted : (s : StripSummary) (e : Entry) → summaryAfter s e .count ≤ suc (s .count)
 unfolding summaryAfter
 counted s (Entry.Bare k) = go (eqb k 255)

@@ -142,7 +142,7 @@ fn pass(run: &[u8], rows: &mut [u64]) -> bool
         let Read::Found(e, n) = strip::read_entry(&run[at..], Layout::Wide) else {
             return false;
         };
-        g = g.step(e);
+        g = g.entry(e);
         let left = g.left;
         if left == 0 {
             return false;

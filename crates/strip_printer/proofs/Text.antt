@@ -1,4 +1,4 @@
--- Text at a place of a buffer: hex, decimal, and the answers that it spells.
+-- Text at a place of a buffer: hex, and the answers that it spells.
 use Prim.Native.Nat.{ℕ, zero, suc, _+_, _*_, _/_, _%_, _^_, _-_, _≤_, _<_}
 use mathlib.Core.Path.{_≡_, refl, ap, sym, _∙_}
 use mathlib.Core.Bool.{Bool, true, false, cond}
@@ -7,11 +7,9 @@ use native.Mathlib.Omega.{arith}
 use native.Mathlib.Numerals.{add-one}
 use borrow.Author.Tests.{lt-ltb, le-ltb, leb-true, leb-false}
 use lib.Dec.{eqb, ltb, leb}
-use lib.Pow.{pow-add}
 use lib.ListN.{length, take, getD, set, replicate, length-append, length-drop, length-set}
 use lib.Seq.{sets, take-suc, length-take-le, length-sets}
-use Rattle.io.specs.Counts.{Counts}
-use Rattle.io.specs.Digits.{glyph, digits, Fewest}
+use Rattle.io.specs.Digits.{glyph}
 use Rattle.strip.proofs.Write.{sets-append}
 use Rattle.translation.specs.Strip.{Decision, refusalNumber, lengthOf, decision}
 use Rattle.translation.specs.declared.answer.Outcome.{Outcome}
@@ -19,7 +17,7 @@ use Rattle.translation.specs.declared.answer.Outcome.the-variants.{Written, Ref
 use Rattle.translation.specs.declared.answer.Refusal.{Refusal}
 use Rattle.translation.specs.declared.answer.Refusal.the-variants.{BadLength, UnknownKind, UnknownForm, SystemValueMov, ByteThree, NoRoom}
 use Rattle.translation.proofs.Shape.{fits}
-use Rattle.strip_printer.specs.Line.{hexOf, spelled, decimalOf, refusedText, textOf}
+use Rattle.strip_printer.specs.Line.{hexOf, refusedText, textOf}
 
 -- ---- a refusal's number has one digit
 pub one-digit : (r : Refusal) → refusalNumber r < 10
@@ -47,10 +45,6 @@ pub hex-none : (base : List ℕ) (at : ℕ) → base ≡ sets base at (hexOf [])
 unfolding hexOf
 hex-none base at = refl
 
-pub copy-more : (from base out : List ℕ) (at i : ℕ) → i < length from → out ≡ sets base at (take i from) → length (take i from) ≡ i
-    → set out (at + i) (getD from i 0) ≡ sets base at (take (suc i) from)
-copy-more from base out at i h e l = rw (take-suc from i 0 h, e) (sets-append (take i from) (getD from i 0 ∷ []) base at (at + i) (omega arith))
-
 pub hex-more : (bytes base out : List ℕ) (at i : ℕ) → i < length bytes → out ≡ sets base at (hexOf (take i bytes)) → length (take i bytes) ≡ i
     → set (set out (at + 2 * i) (glyph (getD bytes i 0 / 16))) (suc (at + 2 * i)) (glyph (getD bytes i 0 % 16)) ≡ sets base at (hexOf (take (suc i) bytes))
 unfolding hexOf
@@ -61,50 +55,6 @@ hex-more bytes base out at i h e l =
 -- a part from the front on, as code names it
 pub from-front : (room base out : List ℕ) (n at : ℕ) → out ≡ sets base at (hexOf (take (n - 0) room)) → out ≡ sets base at (hexOf (take n room))
 from-front room base out n at e = let z : n - 0 ≡ n = omega arith in rw z at e
-
--- ---- decimal: the fewest digits are those of the definition
-pow-one : (k : ℕ) → 1 ≤ 10 ^ k
-pow-one zero = omega arith
-pow-one (suc k) = omega (arith, pow-one k)
-
-pub spelled-is : (k f n : ℕ) → Fewest 10 1 n k → k ≤ f → digits 10 k n ≡ spelled f n
-unfolding spelled
-spelled-is zero f n (a, b, c) h = absurd (omega arith)
-spelled-is (suc k) zero n w h = absurd (omega arith)
-spelled-is (suc zero) (suc f) n (a, b, c) h =
-    let e : n % 10 ≡ n = omega arith in
-    rw (e, lt-ltb n 10 (omega arith))
-spelled-is (suc (suc k)) (suc f) n (a, b, c) h =
-    let at : suc (suc k) - 1 ≡ suc k = omega arith in
-    let m : 10 ^ suc k ≤ n = rw at at (c (omega arith)) in
-    let z : 1 ≤ 10 ^ k = pow-one k in
-    rw (le-ltb n 10 (omega arith), ← spelled-is (suc k) f (n / 10) (omega arith, omega arith, λ z. let at′ : suc k - 1 ≡ k = omega arith in rw at′ (omega arith)) (omega arith))
-
--- and there are at most twenty
-pub few : (k n : ℕ) → Fewest 10 1 n k → n < 18446744073709551616 → k ≤ 20
-few k n (a, b, c) h = by (leb k 20) refl
-  where
-    by : (t : Bool) → leb k 20 ≡ t → k ≤ 20
-    by true e = leb-true k 20 e
-    by false e =
-        let more : 20 < k = leb-false k 20 e in
-        let j : ℕ = k - 21 in
-        let at : k - 1 ≡ 20 + j = omega arith in
-        let m : 10 ^ (20 + j) ≤ n = rw at at (c (omega arith)) in
-        let p : 10 ^ (20 + j) ≡ 10 ^ 20 * 10 ^ j = pow-add 10 20 j in
-        omega (arith, pow-one j)
-
-pub record Decimal (n k : ℕ) (ds : List ℕ) : Type 0 where
-  pub text : take k ds ≡ decimalOf n
-  pub size : length (decimalOf n) ≡ k
-  pub most : k ≤ 20
-
-pub decimal-is : (n k : ℕ) (ds : List ℕ) → n < 18446744073709551616 → Counts k ds → Fewest 10 1 n k → take k ds ≡ digits 10 k n → Decimal n k ds
-unfolding decimalOf
-decimal-is n k ds h (a, b) w e =
-    let m = few k n w h in
-    let t : take k ds ≡ spelled 20 n = e ∙ spelled-is k 20 n w m in
-    record { text = t; size = sym (ap length t) ∙ sym b; most = m }
 
 -- ---- refusals
 pub refused-is : (base out : List ℕ) (at : ℕ) (r : Refusal) (b : ℕ) → out ≡ sets base at (114 ∷ 101 ∷ 102 ∷ 117 ∷ 115 ∷ 101 ∷ 100 ∷ 32 ∷ []) → b ≡ 48 + refusalNumber r

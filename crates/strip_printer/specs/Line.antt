@@ -3,10 +3,11 @@ use Prim.Native.Nat.{ℕ, zero, suc, _+_, _*_, _/_, _%_, _≤_}
 use mathlib.Core.Path.{_≡_}
 use mathlib.Core.Bool.{Bool, true, cond}
 use mathlib.Core.List.{List, [], _∷_, _++_}
-use lib.Dec.{ltb, leb}
+use lib.Dec.{leb}
 use lib.ListN.{length, take, drop, replicate}
 use lib.Seq.{sets}
 use Rattle.io.specs.Digits.{glyph}
+use Rattle.ascii.specs.Decimal.{decimalOf}
 use Rattle.translation.specs.Strip.{Decision, refusalNumber, decision}
 use Rattle.translation.specs.declared.answer.Outcome.{Outcome}
 use Rattle.translation.specs.declared.answer.Outcome.the-variants.{Written, Refused}
@@ -17,15 +18,6 @@ use Rattle.strip_printer.specs.declared.line.Printer.{Printer}
 unfoldable pub hexOf : List ℕ → List ℕ
 hexOf [] = []
 hexOf (b ∷ bs) = glyph (b / 16) ∷ (glyph (b % 16) ∷ hexOf bs)
-
--- a number in decimal, with no zero in front; f digits hold it
-unfoldable pub spelled : ℕ → ℕ → List ℕ
-spelled zero n = []
-spelled (suc f) n = cond (ltb n 10) (glyph n ∷ []) (spelled f (n / 10) ++ (glyph (n % 10) ∷ []))
-
--- twenty digits hold every 64-bit number
-unfoldable pub decimalOf : ℕ → List ℕ
-decimalOf n = spelled 20 n
 
 -- `refused N`: the number has one digit
 unfoldable pub refusedText : Refusal → List ℕ

@@ -7,8 +7,10 @@ ghost use lib.ListN.{length, take};
 ghost use lib.Seq.{sets};
 ghost use Rattle.io.specs.Digits.{glyph as Digits·glyph};
 ghost use Rattle.translation.specs.Strip.{refusalNumber, lengthOf};
-ghost use Rattle.strip_printer.specs.Line.{hexOf, decimalOf, refusedText, textOf, lineOf, goesOn};
+ghost use Rattle.strip_printer.specs.Line.{hexOf, refusedText, textOf, lineOf, goesOn};
 ghost use Rattle.strip_printer.specs.Line.{answerTo, printerAfter, added, Printed, Stands, noText, step, lines};
+use ascii::copy;
+use ascii::decimal;
 use translation::Outcome;
 use translation::Refusal;
 
@@ -41,30 +43,6 @@ fn hex(bytes: &[u8], out: &mut [u8], at: usize)
         out[to + 1] = glyph(b % 16);
         i += 1;
     }
-}
-
-// Bytes, from a place on.
-fn copy(from: &[u8], out: &mut [u8], at: usize)
-    requires { ⌜ at + length (now from) ≤ length (now out) ⌝ }
-    ensures { λ _. ⌜ now (out .exit) ≡ sets (now (out .entry)) at (now (from .entry)) ⌝ }
-{
-    let mut i = 0;
-    while i < from.len() {
-        out[at + i] = from[i];
-        i += 1;
-    }
-}
-
-// A number in decimal from a place on, and the place after it.
-fn decimal(n: u64, out: &mut [u8], at: usize) -> usize
-    requires { ⌜ at + 20 ≤ length (now out) ⌝ }
-    ensures { λ r. ⌜ now (out .exit) ≡ sets (now (out .entry)) at (decimalOf n) ⌝ }
-    ensures { λ r. ⌜ (r ≡ at + length (decimalOf n)) × (r ≤ at + 20) ⌝ }
-{
-    let mut digits = [0u8; 20];
-    let k = io::decimal(n, &mut digits);
-    copy(&digits[..k], out, at);
-    at + k
 }
 
 // The digit of a refusal's number.

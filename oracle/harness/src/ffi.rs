@@ -6,6 +6,16 @@ use oracle::{evaluate, meaning};
 mod raw {
     unsafe extern "C" {
         pub fn mehkura_shape(run: *const u8, run_len: usize, layout: u32) -> u32;
+        pub fn mehkura_shape_begin(state: *mut u8, state_len: usize, layout: u32) -> u32;
+        pub fn mehkura_shape_block(
+            state: *mut u8,
+            state_len: usize,
+            block: *const u8,
+            block_len: usize,
+            passed: *mut usize,
+            strips: *mut usize,
+        ) -> u32;
+        pub fn mehkura_shape_end(state: *const u8, state_len: usize) -> u32;
         pub fn mehkura_evaluate(
             run: *const u8,
             run_len: usize,
@@ -45,6 +55,31 @@ mod raw {
 pub fn shape(run: &[u8], layout: u32) -> u32 {
     // SAFETY: the pointer and the length are those of a live slice, which the library only reads.
     unsafe { raw::mehkura_shape(run.as_ptr(), run.len(), layout) }
+}
+
+/// Bytes of the state of a shape test block by block. Other lengths must be refused with 7.
+pub const SHAPE_STATE: usize = 45;
+
+/// The number that the library gives for a test in the layout of that number: 0 if it has begun, and the state is that
+/// of no bytes, else 7. A refusal must leave the state as it is.
+pub fn shape_begin(state: &mut [u8], layout: u32) -> u32 {
+    // SAFETY: the pointer and the length are those of a live slice, which is borrowed for writing.
+    unsafe { raw::mehkura_shape_begin(state.as_mut_ptr(), state.len(), layout) }
+}
+
+/// The number that the library gives for the next bytes of a run: 0 if they can be those of one, else 7. With both the
+/// state becomes the next one, and the numbers say how many bytes were passed and how many strips ended. A state of
+/// another length must be left as it is, and the numbers too.
+pub fn shape_block(state: &mut [u8], block: &[u8], passed: &mut usize, strips: &mut usize) -> u32 {
+    // SAFETY: the pointers and lengths are those of live slices and of two numbers. The library writes to the state and
+    // the numbers alone, which are borrowed for that and do not overlap.
+    unsafe { raw::mehkura_shape_block(state.as_mut_ptr(), state.len(), block.as_ptr(), block.len(), passed, strips) }
+}
+
+/// The number that the library gives for what was handed over: 0 if it is a well-formed run, else 7.
+pub fn shape_end(state: &[u8]) -> u32 {
+    // SAFETY: the pointer and the length are those of a live slice, which the library only reads.
+    unsafe { raw::mehkura_shape_end(state.as_ptr(), state.len()) }
 }
 
 /// A state as the library takes it: truths are the predicates and then the flags Z, S, C, O, each 0 or 1.

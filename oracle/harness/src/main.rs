@@ -7,6 +7,7 @@ mod convert_diff;
 mod evaluate_bench;
 mod evaluate_diff;
 mod ffi;
+mod lent;
 mod meaning_diff;
 mod pair;
 mod random_bytes;
@@ -15,6 +16,7 @@ mod reach_diff;
 mod rooms;
 mod runs;
 mod shape_bench;
+mod shape_blocks;
 mod shape_diff;
 mod translate_bench;
 mod translate_bits;
@@ -29,8 +31,9 @@ Usage:
   harness shape-diff COUNT SEED
       Runs both shape tests on COUNT random runs of strips (translated, made at random, near misses, damaged, of the
       other layout, short bytes) and on all byte strings of up to 3 bytes, in both layouts, and with numbers that name
-      no layout. Prints the verdicts for each class and each difference. Some thousand runs are needed for every class
-      to have both verdicts.
+      no layout; each as a whole and in blocks, cut in several ways. Prints the verdicts for each class, what the blocks
+      met, and each difference. Some thousand runs are needed for every class to have both verdicts; from 100,000 runs
+      on the blocks must have met everything.
   harness evaluate-diff COUNT SEED
       Runs both evaluations on COUNT random runs of strips (translated, made at random, near misses, damaged, mixed, of
       the other layout), in both layouts and with numbers that name none, from random states with random lists of
@@ -62,8 +65,8 @@ Usage:
   harness random-bytes COUNT SEED
       Calls each function of the library COUNT times on random bytes, on records and runs with bytes changed, and on
       lists of right and wrong lengths. A number that the function cannot answer, a write beside a lent list, or any
-      write where it refuses is wrong. Prints how often each number was answered; each must be seen. Some ten thousand
-      calls are needed. One thread for each processor.
+      write where it refuses is wrong; a shape test in blocks must go on refusing. Prints how often each number was
+      answered; each must be seen. Some ten thousand calls are needed. One thread for each processor.
   harness bench [shape | evaluation | translation | reach | convert]
       Measures port and Rust on the same work and prints one table: nanoseconds for each strip by the port and by the
       Rust, and their ratio, port to Rust. Best of many rounds, port and Rust in turn. With a name only these rows.

@@ -1,5 +1,6 @@
 //! Bytes of all sorts into each function of the library. Whatever they are, a function must come back with one of its
-//! numbers, write nowhere but where it was lent room, and leave everything as it was where it refuses.
+//! numbers, write nowhere but where it was lent room, and leave everything as it was where it refuses. A shape test in
+//! blocks that refuses must go on refusing.
 
 use std::sync::atomic::{AtomicU64, Ordering};
 use std::thread;
@@ -14,7 +15,8 @@ use oracle::rng::Rng;
 use oracle::starts::{ALL_WORDS, random_words};
 use oracle::strips::{TELLING_BYTES, damage, evaluation_strip, random_strip};
 
-use crate::ffi::{self, Fault};
+use crate::ffi::{self, Fault, SHAPE_STATE};
+use crate::lent::Lent;
 use crate::pair::{MarkBytes, ROOM};
 use crate::runs::{NO_LAYOUT, translated_near, translated_strip};
 
@@ -43,9 +45,12 @@ struct Function {
     call: fn(&mut Caller) -> Result<u32, String>,
 }
 
-const FUNCTIONS: [Function; 5] = [
+const FUNCTIONS: [Function; 8] = [
     Function { name: "translate", numbers: &[0, 1, 2, 3, 4, 5, 6], call: |caller| caller.translate() },
     Function { name: "shape", numbers: &[0, 7], call: |caller| caller.shape() },
+    Function { name: "shape_begin", numbers: &[0, 7], call: |caller| caller.shape_begin() },
+    Function { name: "shape_block", numbers: &[0, 7], call: |caller| caller.shape_block() },
+    Function { name: "shape_end", numbers: &[0, 7], call: |caller| caller.shape_end() },
     Function { name: "evaluate", numbers: &[0, 7, 8, 9], call: |caller| caller.evaluate() },
     Function { name: "reach", numbers: &[0, 7], call: |caller| caller.reach() },
     Function { name: "convert", numbers: &[0, 6, 7], call: |caller| caller.convert() },
@@ -73,67 +78,18 @@ impl Stock {
     }
 }
 
-/// A list that is lent: a part of a longer buffer. What stood in the whole buffer is kept, so that a write shows.
-#[derive(Default)]
-struct Lent<T> {
-    buffer: Vec<T>,
-    before: Vec<T>,
-    start: usize,
-    len: usize,
-}
-
-impl<T: Copy + PartialEq> Lent<T> {
-    /// Elements before and after the list, and a few more before it, so that it begins anywhere.
-    const MARGIN: usize = 64;
-    const SHIFTS: usize = 16;
-
-    fn fill(&mut self, rng: &mut Rng, margin: T, list: impl IntoIterator<Item = T>) {
-        self.start = Self::MARGIN + rng.below(Self::SHIFTS);
-        self.before.clear();
-        self.before.resize(self.start, margin);
-        self.before.extend(list);
-        self.len = self.before.len() - self.start;
-        self.before.resize(self.start + self.len + Self::MARGIN, margin);
-        self.buffer.clone_from(&self.before);
-    }
-
-    fn list(&mut self) -> &mut [T] {
-        &mut self.buffer[self.start..self.start + self.len]
-    }
-
-    fn list_before(&self) -> &[T] {
-        &self.before[self.start..self.start + self.len]
-    }
-
-    /// Nothing is written at all.
-    fn is_kept(&self) -> bool {
-        self.buffer == self.before
-    }
-
-    /// The list has this length, and nothing is written beside it.
-    fn is_kept_around(&self, len: usize) -> bool {
-        self.len == len && self.is_kept_beside(len)
-    }
-
-    /// Nothing is written beside the first `written` elements of the list.
-    fn is_kept_beside(&self, written: usize) -> bool {
-        let end = self.start + written;
-        written <= self.len
-            && self.buffer[..self.start] == self.before[..self.start]
-            && self.buffer[end..] == self.before[end..]
-    }
-}
-
 /// Makes random calls.
 struct Caller<'a> {
     rng: Rng,
     stock: &'a Stock,
-    /// A record or a run.
+    /// A record, a run or a block of one.
     input: Lent<u8>,
-    /// Marks, truths or cells.
+    /// Marks, truths, cells or the state of a shape test.
     bytes: Lent<u8>,
     room: Lent<u8>,
+    /// A length, or how many bytes are passed.
     written: Lent<usize>,
+    strips: Lent<usize>,
     registers: Lent<u32>,
     fault: Lent<Fault>,
 }
@@ -147,6 +103,7 @@ impl<'a> Caller<'a> {
             bytes: Lent::default(),
             room: Lent::default(),
             written: Lent::default(),
+            strips: Lent::default(),
             registers: Lent::default(),
             fault: Lent::default(),
         }
@@ -238,6 +195,35 @@ impl<'a> Caller<'a> {
         self.written.fill(&mut self.rng, any as usize, [!any as usize]);
     }
 
+    /// Bytes in place of a block and of the state before it. The state is without meaning, or that of a test of some
+    /// bytes, at times with a few changes; the block goes on with the same run, or is of another one.
+    fn fill_block(&mut self) {
+        let layout = self.fill_run();
+        let run = self.input.list_before().to_vec();
+        let (first, second) = run.split_at(self.rng.below(run.len() + 1));
+        self.fill_bytes(SHAPE_STATE);
+        if !self.rng.one_in(4) {
+            let mut state = self.bytes.list_before().to_vec();
+            // A state of another length stays as it is.
+            ffi::shape_begin(&mut state, layout);
+            ffi::shape_block(&mut state, first, &mut 0, &mut 0);
+            if !state.is_empty() && self.rng.one_in(3) {
+                for _ in 0..1 + self.rng.below(3) {
+                    let at = self.rng.below(state.len());
+                    state[at] = self.plain_bytes(1)[0];
+                }
+            }
+            let margin = self.rng.next_u64() as u8;
+            self.bytes.fill(&mut self.rng, margin, state);
+        }
+        if self.rng.one_in(2) {
+            self.fill_run();
+        } else {
+            let margin = self.rng.next_u64() as u8;
+            self.input.fill(&mut self.rng, margin, second.iter().copied());
+        }
+    }
+
     fn translate(&mut self) -> Result<u32, String> {
         self.fill_record();
         self.fill_bytes(MARKS);
@@ -256,6 +242,54 @@ impl<'a> Caller<'a> {
         let layout = self.fill_run();
         let number = ffi::shape(self.input.list(), layout);
         self.verdict(number, self.input.is_kept())
+    }
+
+    fn shape_begin(&mut self) -> Result<u32, String> {
+        let layout = self.fill_run();
+        self.fill_bytes(SHAPE_STATE);
+        let number = ffi::shape_begin(self.bytes.list(), layout);
+        let untouched = if number == 0 { self.bytes.is_kept_around(SHAPE_STATE) } else { self.bytes.is_kept() };
+        self.verdict(number, untouched)
+    }
+
+    fn shape_block(&mut self) -> Result<u32, String> {
+        self.fill_block();
+        let any = self.rng.next_u64() as usize;
+        self.written.fill(&mut self.rng, any, [!any]);
+        self.strips.fill(&mut self.rng, !any, [any]);
+
+        let (passed, strips) = (&mut self.written.list()[0], &mut self.strips.list()[0]);
+        let number = ffi::shape_block(self.bytes.list(), self.input.list(), passed, strips);
+        let (passed, strips) = (*passed, *strips);
+        let untouched = self.input.is_kept()
+            && if self.bytes.len == SHAPE_STATE {
+                self.bytes.is_kept_around(SHAPE_STATE)
+                    && self.written.is_kept_around(1)
+                    && self.strips.is_kept_around(1)
+                    // An entry that was cut has eight bytes at most, and a strip has its end.
+                    && passed <= self.input.len + 8
+                    && strips <= passed
+                    && (number == 0 || self.goes_on_refusing())
+            } else {
+                number == 7 && self.bytes.is_kept() && self.written.is_kept() && self.strips.is_kept()
+            };
+        self.verdict(number, untouched)
+    }
+
+    /// Whether nothing is passed from the state of the last call on, and the state stays.
+    fn goes_on_refusing(&mut self) -> bool {
+        let mut state = self.bytes.list().to_vec();
+        let before = state.clone();
+        let (mut passed, mut strips) = (1, 1);
+        let number = ffi::shape_block(&mut state, self.input.list(), &mut passed, &mut strips);
+        (number, passed, strips) == (7, 0, 0) && state == before && ffi::shape_end(&state) == 7
+    }
+
+    fn shape_end(&mut self) -> Result<u32, String> {
+        self.fill_block();
+        let number = ffi::shape_end(self.bytes.list());
+        let untouched = self.bytes.is_kept() && (number == 7 || self.bytes.len == SHAPE_STATE);
+        self.verdict(number, untouched)
     }
 
     fn evaluate(&mut self) -> Result<u32, String> {
@@ -380,7 +414,7 @@ impl Tally {
     /// Prints the counts, and says whether they are as they ought to be.
     fn report(&self, function: &Function) -> bool {
         let mut complaint = String::new();
-        print!("{:<10}", function.name);
+        print!("{:<11}", function.name);
         for (number, times) in (0..).zip(self.numbers) {
             if function.numbers.contains(&number) {
                 print!(" {times:>9}");
@@ -426,7 +460,7 @@ pub fn run(count: u64, seed: u64) -> bool {
         }
     });
 
-    print!("{:<10}", "");
+    print!("{:<11}", "");
     for number in 0..NUMBERS {
         print!(" {number:>9}");
     }

@@ -1,4 +1,5 @@
-//! The differential test of the shape test: the same runs through plain Rust and through the library.
+//! The differential test of the shape test: the same runs through plain Rust and through the library, as a whole and block
+//! by block.
 
 use oracle::format::Layout;
 use oracle::print::hex;
@@ -11,6 +12,7 @@ use crate::runs::{
     Make, NO_LAYOUT, damaged, last_damaged, near_miss_of, of_any_values, of_both_layouts, of_the_other_layout,
     translated, turn,
 };
+use crate::shape_blocks::ByBlocks;
 
 /// Differences that are printed in full.
 const SHOWN: u64 = 20;
@@ -49,24 +51,43 @@ struct Tally {
     different: u64,
 }
 
-impl Tally {
-    /// The layout is given by its number, which may name none.
-    fn compare(&mut self, name: &str, run: &[u8], layout: u32, shown: &mut u64) {
+/// Compares and shows what differs.
+struct Comparison {
+    by_blocks: ByBlocks,
+    shown: u64,
+}
+
+impl Comparison {
+    /// Whether the run is well-formed, and whether something differs. The layout is given by its number, which may name
+    /// none.
+    fn compare(&mut self, name: &str, run: &[u8], layout: u32) -> (bool, bool) {
         let well_formed = Layout::from_number(layout).is_some_and(|layout| shape_ok(run, layout));
+        let plain = if well_formed { 0 } else { 7 };
         let library = ffi::shape(run, layout);
+        let difference = if library == plain {
+            self.by_blocks.compare(run, layout, library)
+        } else {
+            Some(format!("plain {plain}, library {library}"))
+        };
+        if let Some(difference) = &difference {
+            self.shown += 1;
+            if self.shown <= SHOWN {
+                println!("difference ({name}): {difference}; layout {layout}, run {}", hex(run));
+            }
+        }
+        (well_formed, difference.is_some())
+    }
+}
+
+impl Tally {
+    fn compare(&mut self, name: &str, run: &[u8], layout: u32, comparison: &mut Comparison) {
+        let (well_formed, different) = comparison.compare(name, run, layout);
         if well_formed {
             self.accepted += 1;
         } else {
             self.refused += 1;
         }
-        let plain = if well_formed { 0 } else { 7 };
-        if library != plain {
-            self.different += 1;
-            *shown += 1;
-            if *shown <= SHOWN {
-                println!("difference ({name}): plain {plain}, library {library}, layout {layout}, run {}", hex(run));
-            }
-        }
+        self.different += u64::from(different);
     }
 
     /// Prints the counts, and says whether they are as they ought to be.
@@ -85,44 +106,47 @@ impl Tally {
 }
 
 /// Every byte string of up to three bytes.
-fn exhaustive(tally: &mut Tally, name: &str, layout: u32, shown: &mut u64) {
-    tally.compare(name, &[], layout, shown);
+fn exhaustive(tally: &mut Tally, name: &str, layout: u32, comparison: &mut Comparison) {
+    tally.compare(name, &[], layout, comparison);
     for number in 0..1u32 << 24 {
         let [a, b, c, _] = number.to_le_bytes();
-        tally.compare(name, &[a, b, c], layout, shown);
+        tally.compare(name, &[a, b, c], layout, comparison);
         if number < 1 << 16 {
-            tally.compare(name, &[a, b], layout, shown);
+            tally.compare(name, &[a, b], layout, comparison);
         }
         if number < 1 << 8 {
-            tally.compare(name, &[a], layout, shown);
+            tally.compare(name, &[a], layout, comparison);
         }
     }
 }
 
 /// Compares on `count` random runs, shared out among the classes, in each layout and in none, and on all short ones.
-/// True if there is no difference and every class has the verdicts that it ought to have.
+/// True if there is no difference, every class has the verdicts that it ought to have, and the blocks met all that they
+/// ought to meet.
 pub fn run(count: u64, seed: u64) -> bool {
     let mut rng = Rng::new(seed);
-    let mut shown = 0;
+    let mut comparison = Comparison { by_blocks: ByBlocks::new(!seed), shown: 0 };
     let mut tallies: [[Tally; CLASSES.len()]; Layout::ALL.len()] = Default::default();
     let mut short: [Tally; Layout::ALL.len()] = Default::default();
     let mut no_layout = Tally::default();
     let (short_name, no_layout_name) = ("all of up to 3 bytes", "no such layout");
     for number in NO_LAYOUT {
-        no_layout.compare(no_layout_name, &[], number, &mut shown);
+        no_layout.compare(no_layout_name, &[], number, &mut comparison);
     }
     for index in 0..count {
         let (layout, at) = turn(index, CLASSES.len());
         let run = (CLASSES[at].make)(&mut rng, layout);
-        tallies[layout as usize][at].compare(CLASSES[at].name, &run, layout.number(), &mut shown);
-        no_layout.compare(no_layout_name, &run, rng.pick(&NO_LAYOUT), &mut shown);
+        tallies[layout as usize][at].compare(CLASSES[at].name, &run, layout.number(), &mut comparison);
+        no_layout.compare(no_layout_name, &run, rng.pick(&NO_LAYOUT), &mut comparison);
     }
+    // What the short ones meet is not counted: the random ones must meet it.
+    let met = std::mem::take(&mut comparison.by_blocks.met);
     for layout in Layout::ALL {
-        exhaustive(&mut short[layout as usize], short_name, layout.number(), &mut shown);
+        exhaustive(&mut short[layout as usize], short_name, layout.number(), &mut comparison);
     }
 
-    if shown > SHOWN {
-        println!("{} more differences", shown - SHOWN);
+    if comparison.shown > SHOWN {
+        println!("{} more differences", comparison.shown - SHOWN);
     }
     let mut fine = true;
     for layout in Layout::ALL {
@@ -133,6 +157,7 @@ pub fn run(count: u64, seed: u64) -> bool {
         fine &= report(&short[layout as usize], short_name, Ought::Both);
     }
     fine &= no_layout.report(no_layout_name, Ought::Refuse);
+    fine &= met.report(count);
     println!("{}", if fine { "no difference" } else { "FAILED" });
     fine
 }

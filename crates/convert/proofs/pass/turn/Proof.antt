@@ -14,4 +14,4 @@ turn-spec =
     (λ c. same (c .before .before .put-entry .ensures) refl)
     (λ c. writes _ _ _ _ _ (c .before .before .before .before .if1 .taken) (c .before .before .put-entry .ensures))
     (λ c κs. (c .before .before .pre .0, c .before .before .pre .1))
-    (λ c. tests _ _ _ _ _ _ (c .before .if1 .left) (c .step .ensures)))
+    (λ c. tests _ _ _ _ _ _ (c .before .if1 .left) (c .entry .ensures)))

@@ -1,6 +1,7 @@
 use native.Mathlib.Omega.{arith}
 use lib.ListN.{length-set}
-use Rattle.strip_printer.specs.Line.{decimalOf, textOf, lineOf}
+use Rattle.ascii.specs.Decimal.{decimalOf}
+use Rattle.strip_printer.specs.Line.{textOf, lineOf}
 use Rattle.strip_printer.proofs.Text.{line-is, line-length, line-size}
 use borrow.Author.Needs.{needs}
 use Rattle.strip_printer.proofs.line.text.Statement.{statement}

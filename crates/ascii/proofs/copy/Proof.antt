@@ -5,9 +5,9 @@ use native.Mathlib.Numerals.{add-one}
 use borrow.Author.Needs.{needs}
 use lib.ListN.{length, take, length-set}
 use lib.Seq.{sets, take-length, length-take-le}
-use Rattle.strip_printer.proofs.Text.{copy-more}
-use Rattle.strip_printer.proofs.line.copy.Statement.{statement}
-use Rattle.strip_printer.proofs.line.copy.Tie as tie
+use Rattle.ascii.proofs.Text.{copy-more}
+use Rattle.ascii.proofs.copy.Statement.{statement}
+use Rattle.ascii.proofs.copy.Tie as tie
 
 abbrev Inv-loop : tie.InvT-loop
 Inv-loop from out₀ at i₀ out i = (i ≤ length from) × (length out ≡ length out₀) × (out ≡ sets out₀ at (take i from))

@@ -1,8 +1,8 @@
 use native.Mathlib.Omega.{arith}
-use Rattle.strip_printer.proofs.Text.{decimal-is}
+use Rattle.ascii.proofs.Text.{decimal-is}
 use borrow.Author.Needs.{needs}
-use Rattle.strip_printer.proofs.line.decimal.Statement.{statement}
-use Rattle.strip_printer.proofs.line.decimal.Tie as tie
+use Rattle.ascii.proofs.decimal.Statement.{statement}
+use Rattle.ascii.proofs.decimal.Tie as tie
 
 pub decimal-spec : {M : Type 1} → statement M
 decimal-spec =
