@@ -18,8 +18,8 @@ enum mehkura_answer {
     MEHKURA_BAD_LENGTH = 1,      /* the record is not 18 bytes, or the marks are not 128 */
     MEHKURA_UNKNOWN_KIND = 2,    /* not one of the thirty */
     MEHKURA_UNKNOWN_FORM = 3,    /* above 2 */
-    MEHKURA_SYSTEM_VALUE_MOV = 4, /* mov of a system value: opcode value 0xf0c8000000000000 */
-    MEHKURA_HALF_AT_BYTE_3 = 5,  /* i2i of a half from byte 3 on */
+    MEHKURA_SYSTEM_VALUE_MOV = 4, /* mov of a system value, opcode value 0xf0c8000000000000, under a guard that may run */
+    MEHKURA_HALF_AT_BYTE_3 = 5,  /* i2i of a half from byte 3 on, under a guard that may run */
     MEHKURA_NO_ROOM = 6,         /* the strip, or the converted run, is longer than the room */
     MEHKURA_BAD_SHAPE = 7,       /* the run is not well-formed in its layout, or a list of cells or of a state has another length */
     MEHKURA_UNDEFINED_VALUE = 8, /* an undefined value reaches a store, an open or an address */
@@ -50,7 +50,8 @@ extern "C" {
 #endif
 
 /* Translates a record: its strip, in the wide layout, goes to the start of out, the strip's length to *written, and the use marks are raised. What
- * lies in out after the strip stays as it is. Strips one after another are a run. Answers 0, or 1 to 6. */
+ * lies in out after the strip stays as it is. Strips one after another are a run. A record under predicate 7 negated never runs: whatever its opcode
+ * value and its size codes are, its strip is the end alone, one byte, and no mark is raised. Answers 0, or 1 to 6. */
 uint32_t mehkura_translate(const uint8_t *record, size_t record_len, uint8_t *marks, size_t marks_len, uint8_t *out, size_t out_len, size_t *written);
 
 /* Whether a run is well-formed in the layout. Answers 0 or 7. */

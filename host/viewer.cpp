@@ -37,16 +37,28 @@ Bytes record(uint8_t kind, uint8_t form, uint64_t value, uint64_t word) {
     return bytes;
 }
 
-// Fields of a word. Guard 7 always holds.
+// Fields of a word. Guard 7 always holds; 8 more negates it, so 15 never does.
 constexpr uint64_t guard(uint64_t predicate) { return predicate << 16; }
 constexpr uint64_t rd(uint64_t n) { return n; }
 constexpr uint64_t ra(uint64_t n) { return n << 8; }
 constexpr uint64_t rb(uint64_t n) { return n << 20; }
 
+// The two words that works carry as padding: mov of a system value, and i2i of a half from byte 3 on.
+Bytes system_value_mov(uint64_t g, uint8_t kind = 1, uint8_t form = 0) { return record(kind, form, 0xf0c8000000000000, guard(g) | rd(1)); }
+Bytes half_at_byte_3(uint64_t g, uint8_t kind = 24, uint8_t form = 0) {
+    return record(kind, form, 0x5ce0000000000000, guard(g) | rd(1) | rb(1) | 1ull << 10 | 3ull << 41);
+}
+
 // The start of a list. An empty vector may have a null pointer, which no function takes.
 template <typename List> auto *start(List &list) {
     static typename List::value_type none;
     return list.empty() ? &none : list.data();
+}
+
+Bytes joined(const Bytes &first, const Bytes &second) {
+    Bytes both = first;
+    both.insert(both.end(), second.begin(), second.end());
+    return both;
 }
 
 // Strips of accepted records, one after another, in a room of a fixed size.
@@ -211,16 +223,18 @@ void one_room(const std::string &samples) {
     std::puts("one room: all samples as one run, 200 pairs of starts");
 }
 
-// Every refusal of the translation, with everything as it was after it.
+// The translation is refused, and everything is as it was after it.
+void refuses(const Bytes &r, size_t marks_len, size_t room_len, uint32_t number, const std::string &what) {
+    std::vector<uint8_t> marks(marks_len, 0x11), room(room_len, unused);
+    const auto marks_before = marks, room_before = room;
+    size_t written = 77;
+    check(mehkura_translate(start(r), r.size(), start(marks), marks.size(), start(room), room.size(), &written) == number, what);
+    check(written == 77 && marks == marks_before && room == room_before, what + ": all as it was");
+}
+
+// Every refusal of the translation.
 void translations() {
     const Bytes good = record(2, 2, 0, 0x0001234567870005);
-    auto refuses = [](const Bytes &r, size_t marks_len, size_t room_len, uint32_t number, const std::string &what) {
-        std::vector<uint8_t> marks(marks_len, 0x11), room(room_len, unused);
-        const auto marks_before = marks, room_before = room;
-        size_t written = 77;
-        check(mehkura_translate(start(r), r.size(), start(marks), marks.size(), start(room), room.size(), &written) == number, what);
-        check(written == 77 && marks == marks_before && room == room_before, what + ": all as it was");
-    };
     for (size_t n : {0, 1, 17, 19}) {
         Bytes r = good;
         r.resize(n);
@@ -246,6 +260,79 @@ void translations() {
     std::puts("translations: refusals 1 to 6, a room exactly full");
 }
 
+// Dead words: under predicate 7 negated the two words are accepted, and the strip is the end alone. Under other guards they are refused.
+void dead_words(const std::string &samples) {
+    const Bytes end{0xff};
+    for (uint8_t form : {0, 1, 2})
+        for (const Bytes &r : {system_value_mov(15, 1, form), half_at_byte_3(15, 24, form)}) {
+            Bytes marks(MEHKURA_MARKS, 0x11), room(5, unused);
+            const Bytes before = marks;
+            size_t written = 77;
+            check(mehkura_translate(r.data(), r.size(), marks.data(), marks.size(), room.data(), room.size(), &written) == 0,
+                  "a dead word is accepted");
+            check(written == 1 && room == joined(end, Bytes(4, unused)) && marks == before, "its strip is the end alone, all else is as it was");
+            Room exact(1);
+            check(exact.add(r) == 0 && exact.run() == end, "a room of one byte is enough");
+            // form 1 names a constant
+            check(exact.marks == Marks{}, "no mark is raised");
+            refuses(r, 128, 0, 6, "6 for a dead word and no room");
+            refuses(r, 127, 5, 1, "1 for a dead word and marks of 127 bytes");
+            refuses(Bytes(r.begin(), r.end() - 1), 128, 5, 1, "1 for a dead word of 17 bytes");
+        }
+    // always, P0, P0 negated (bit 19 alone) and P6 negated may run
+    for (uint64_t g : {7, 0, 8, 14})
+        for (size_t room_len : {0, 256}) {
+            refuses(system_value_mov(g), 128, room_len, 4, "4 under guard " + std::to_string(g));
+            refuses(half_at_byte_3(g), 128, room_len, 5, "5 under guard " + std::to_string(g));
+        }
+    // no kind and no form are refused under the guard that never runs too
+    for (uint8_t kind : {0, 31, 255})
+        for (const Bytes &r : {system_value_mov(15, kind), half_at_byte_3(15, kind, 3)}) refuses(r, 128, 256, 2, "2 under the guard that never runs");
+    for (uint8_t form : {3, 255})
+        for (const Bytes &r : {system_value_mov(15, 1, form), half_at_byte_3(15, 24, form)})
+            refuses(r, 128, 256, 3, "3 under the guard that never runs");
+
+    // R1 = R2 + R3; @P0 mov R4, R1: with dead words that name R1 before, between and after, the list and the end are the same
+    const Bytes works[] = {record(9, 0, 0, guard(7) | rd(1) | ra(2) | rb(3)), record(1, 0, 0, guard(0) | rd(4) | rb(1))};
+    Room with(512), without(512);
+    for (const Bytes &r : works) {
+        check(with.add(system_value_mov(15)) == 0 && with.add(half_at_byte_3(15)) == 0 && with.add(r) == 0, "dead words among others are accepted");
+        check(without.add(r) == 0, "the same without them");
+    }
+    check(with.add(half_at_byte_3(15)) == 0 && with.used == without.used + 5 && with.marks == without.marks, "a byte for each dead word, no mark");
+    for (size_t asked = 0; asked < MEHKURA_CELLS; ++asked) {
+        Cells a{}, b{};
+        a[asked] = b[asked] = 1;
+        check(mehkura_reach(with.bytes.data(), with.used, a.data(), a.size()) == 0, "reach answers with dead words");
+        check(mehkura_reach(without.bytes.data(), without.used, b.data(), b.size()) == 0 && a == b, "the same list as without them");
+    }
+    for (uint8_t truth : {0, 1}) {
+        State a;
+        for (size_t i = 0; i < MEHKURA_REGISTERS; ++i) a.registers[i] = static_cast<uint32_t>(0x9e3779b9u * (i + 1));
+        a.truths.fill(truth);
+        State b = a;
+        check(a.run(with) == 0 && b.run(without) == 0 && a == b, "the same end as without them");
+    }
+
+    // the sample: two dead words, and the same two refused
+    const Bytes padding = file(samples + "/padding.bin");
+    const uint32_t numbers[] = {0, 0, 4, 5};
+    check(padding.size() == 4 * MEHKURA_RECORD, "the padding has four records");
+    Room room(64);
+    for (size_t i = 0; i < 4; ++i) {
+        const auto from = padding.begin() + static_cast<long>(i * MEHKURA_RECORD);
+        check(room.add(Bytes(from, from + MEHKURA_RECORD)) == numbers[i], "the padding's number " + std::to_string(i));
+    }
+    check(room.run() == joined(end, end) && room.marks == Marks{}, "the padding is two ends and raises no mark");
+    check(std::all_of(room.bytes.begin() + 2, room.bytes.end(), [](uint8_t byte) { return byte == unused; }), "the room after them is as it was");
+    State s;
+    for (size_t i = 0; i < MEHKURA_REGISTERS; ++i) s.registers[i] = static_cast<uint32_t>(0x9e3779b9u * (i + 1));
+    for (size_t i = 0; i < MEHKURA_TRUTHS; ++i) s.truths[i] = i % 2;
+    const State before = s;
+    check(s.run(room, {}) == 0 && s == before, "the padding leaves the state and needs no constant");
+    std::puts("dead words: accepted under predicate 7 negated, refused with 4 and 5 under the others");
+}
+
 // A strip with an address: slot, zero, vec and comp.
 Bytes address(uint8_t slot, uint32_t zero, uint32_t vec, uint32_t comp) {
     Bytes strip{10, slot};
@@ -255,12 +342,6 @@ Bytes address(uint8_t slot, uint32_t zero, uint32_t vec, uint32_t comp) {
     }
     for (uint8_t byte : {11, 0, 0, 1, 0, 2, 0, 3, 0, 255}) strip.push_back(byte);
     return strip;
-}
-
-Bytes joined(const Bytes &first, const Bytes &second) {
-    Bytes both = first;
-    both.insert(both.end(), second.begin(), second.end());
-    return both;
 }
 
 // Numbers that name no layout.
@@ -559,6 +640,7 @@ void blocks(const std::string &samples) {
 int main(int argc, char **argv) {
     const std::string samples = argc > 1 ? argv[1] : "samples";
     translations();
+    dead_words(samples);
     evaluations();
     conversions();
     shelf(samples);

@@ -180,7 +180,8 @@ impl Pieces {
     }
 }
 
-/// The arms of the thirty kinds. The mov of a system value is the one arm with a condition; 01 refuses it with number 4.
+/// The arms of the thirty kinds. The mov of a system value is the one arm with a condition; under a guard that may run it
+/// is refused with number 4, and under one that never does `guarded` calls no arm.
 fn take_arms(pieces: &mut Pieces, source: &Source, arms: &[Span]) {
     let mut taken: Vec<String> = Vec::new();
     for &arm in arms {

@@ -1,7 +1,7 @@
 //! Random records, with the corners of the reference more frequent than chance would make them.
 
 use crate::Form;
-use crate::record::{I2I, MOV_SYSTEM_VALUE, NAMES, Record};
+use crate::record::{I2I, MOV, MOV_SYSTEM_VALUE, NAMES, Record};
 use crate::rng::Rng;
 
 /// A row of the reference's opcode table.
@@ -80,17 +80,55 @@ fn real_record(rng: &mut Rng) -> Record {
     Record { kind, form: row.form as u8, value: row.value, word: random_word(rng) & !row.mask | row.value }
 }
 
-/// A record of any sort. About one in 25 is refused.
-pub fn random_record(rng: &mut Rng) -> Record {
-    if rng.one_in(4) {
-        return real_record(rng);
-    }
-    let mut record = Record {
+/// A record of a kind that there is, with a form that there is.
+fn known_record(rng: &mut Rng) -> Record {
+    Record {
         kind: 1 + rng.below(NAMES.len()) as u8,
         form: rng.below(3) as u8,
         value: random_value(rng),
         word: random_word(rng),
-    };
+    }
+}
+
+/// A mov of a system value or an i2i of a half from byte 3 on: admitted under predicate 7 negated, else refused.
+pub fn padding(rng: &mut Rng, guard: u64) -> Record {
+    let mut record = known_record(rng);
+    if rng.one_in(2) {
+        record.kind = MOV;
+        record.value = MOV_SYSTEM_VALUE;
+    } else {
+        record.kind = I2I;
+        record.word = with_field(record.word, 10, 2, 1);
+        record.word = with_field(record.word, 41, 2, 3);
+    }
+    record.word = with_field(record.word, 16, 4, guard);
+    record
+}
+
+/// A record under predicate 7 negated: one of the two that are refused under any other guard, or any other kind.
+pub fn dead_word(rng: &mut Rng) -> Record {
+    if rng.one_in(3) {
+        let record = known_record(rng);
+        return Record { word: with_field(record.word, 16, 4, 15), ..record };
+    }
+    padding(rng, 15)
+}
+
+/// A record of any sort. About one in 19 is refused.
+pub fn random_record(rng: &mut Rng) -> Record {
+    match rng.below(64) {
+        0..=3 => return dead_word(rng),
+        // Their neighbours, which are refused: the guard that always holds, and bit 19 alone.
+        4 => {
+            let guard = rng.pick(&[7, 8]);
+            return padding(rng, guard);
+        }
+        _ => {}
+    }
+    if rng.one_in(4) {
+        return real_record(rng);
+    }
+    let mut record = known_record(rng);
     let any = rng.next_u64() as u8;
     match rng.below(48) {
         0 => record.kind = rng.pick(&[0, 31, 32, 33, 34, 127, 128, 255, any]),

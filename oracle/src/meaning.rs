@@ -51,8 +51,9 @@ pub struct State {
     pub flags: [bool; 4],
 }
 
-/// The state after an instruction. The record must be one that is not refused. A constant word that is not lent counts
-/// as 0; [`lacking_word`] says where that matters.
+/// The state after an instruction. The record must be one that is not refused. A dead word is not, whatever its kind and
+/// opcode value, and leaves the state. A constant word that is not lent counts as 0; [`lacking_word`] says where that
+/// matters.
 pub fn meaning(record: &Record, state: &State, constants: &[u32]) -> State {
     let mut step = Step { record, before: state, constants, after: state.clone() };
     if guard_holds(record, state) {

@@ -45,8 +45,26 @@ impl Record {
         bytes
     }
 
-    /// The name and form of the instruction, or the first of the refusals 2 to 5 that holds. Refusals 4 and 5 hold
-    /// under any guard, also under one that never runs the instruction.
+    /// Whether no state lets the instruction run: its guard is predicate 7, which reads true, negated. Such a record is a
+    /// dead word. Bit 19 alone does not make one, since another predicate may be false.
+    pub fn never_runs(&self) -> bool {
+        self.word >> 16 & 0xf == 0xf
+    }
+
+    /// mov of a system value, which refusal 4 speaks of.
+    pub fn is_system_value_mov(&self) -> bool {
+        self.kind == MOV && self.value == MOV_SYSTEM_VALUE
+    }
+
+    /// i2i of a half from byte 3 on, which refusal 5 speaks of.
+    pub fn is_half_at_byte_3(&self) -> bool {
+        let source_size = self.word >> 10 & 3;
+        let source_byte = self.word >> 41 & 3;
+        self.kind == I2I && source_size == 1 && source_byte == 3
+    }
+
+    /// The name and form of the instruction, or the first of the refusals 2 to 5 that holds. Refusals 4 and 5 hold only
+    /// under a guard that may run: a dead word needs no support (#104).
     pub fn admit(&self) -> Result<(&'static str, Form), u8> {
         let name = *usize::from(self.kind).checked_sub(1).and_then(|at| NAMES.get(at)).ok_or(2)?;
         let form = match self.form {
@@ -55,12 +73,10 @@ impl Record {
             2 => Form::Imm,
             _ => return Err(3),
         };
-        if self.kind == MOV && self.value == MOV_SYSTEM_VALUE {
+        if self.is_system_value_mov() && !self.never_runs() {
             return Err(4);
         }
-        let source_size = self.word >> 10 & 3;
-        let source_byte = self.word >> 41 & 3;
-        if self.kind == I2I && source_size == 1 && source_byte == 3 {
+        if self.is_half_at_byte_3() && !self.never_runs() {
             return Err(5);
         }
         Ok((name, form))

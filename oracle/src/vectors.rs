@@ -8,8 +8,10 @@
 //! 3. For each kind, starting from a word of ones: each bit from 43 to 56 cleared alone, the forms taken in turn.
 //! 4. Corners, kind by kind: all codes of a field, all pairs of mode bits that act together, limits of cells, slots,
 //!    offsets and signed numbers, equal predicates, empty masks.
-//! 5. The refusals 2 to 5, pairs of causes, and records that just miss a cause.
-//! 6. Random admitted records, the same number for each kind, from a fixed seed.
+//! 5. The refusals 2 to 5, pairs of causes, and records that just miss a cause. What 4 and 5 speak of stands there under
+//!    every guard; under predicate 7 negated it is admitted.
+//! 6. Dead words of every kind, with what 4 and 5 look at, and with constants, of which they raise no mark.
+//! 7. Random admitted records, the same number for each kind, from a fixed seed.
 //!
 //! The answers are the reference's own, from marks that are all 0.
 
@@ -97,6 +99,7 @@ pub fn records() -> Vec<Record> {
     single_bits(&mut list);
     corners(&mut list);
     refusals(&mut list);
+    dead_words(&mut list);
     random(&mut list);
     list.records
 }
@@ -139,6 +142,8 @@ impl List {
 
 /// rd 1, ra 2, rb 3, guard 7, no mode bits. As a constant it names slot 0, offset 12; as a number it is 3.
 const PLAIN: u64 = 1 | 2 << 8 | 7 << 16 | 3 << 20;
+/// The same for i2i: from 16 bits at byte 3.
+const HALF_AT_BYTE_3: u64 = PLAIN & !0xff00 | 1 << 10 | 3 << 41;
 
 fn kinds() -> std::ops::RangeInclusive<u8> {
     1..=NAMES.len() as u8
@@ -390,12 +395,24 @@ fn refusals(list: &mut List) {
         list.add(MOV, form, 0, PLAIN);
         list.add(MOV, form, MOV_SYSTEM_VALUE, PLAIN);
         list.add(LEA, form, 0, guard(PLAIN, 15));
-        list.add(I2I, form, 0, PLAIN & !0xff00 | 1 << 10 | 3 << 41);
+        list.add(I2I, form, 0, HALF_AT_BYTE_3);
     }
-    // Mov of a system value under each form and guard, with and without a destination; its neighbours are admitted.
+    // The same under the guard that never runs: 2 and 3 hold there too.
+    for kind in [0, 31, 255] {
+        list.add(kind, REG, MOV_SYSTEM_VALUE, guard(PLAIN, 15));
+        list.add(kind, 3, 0, guard(HALF_AT_BYTE_3, 15));
+    }
+    for form in [3, 255] {
+        list.add(MOV, form, MOV_SYSTEM_VALUE, guard(PLAIN, 15));
+        list.add(I2I, form, 0, guard(HALF_AT_BYTE_3, 15));
+    }
+    // Mov of a system value under each form and guard, with and without a destination: admitted under guard 15 alone. Its
+    // neighbours are admitted.
     for form in [REG, CBUF, IMM] {
-        for g in [7, 15, 0, 14] {
+        for g in 0..16 {
             list.add(MOV, form, MOV_SYSTEM_VALUE, guard(PLAIN, g));
+        }
+        for g in [7, 15, 0, 14] {
             list.add(MOV, form, MOV_SYSTEM_VALUE, guard(PLAIN, g) | 0xff);
         }
         list.add(MOV32I, form, MOV_SYSTEM_VALUE, PLAIN);
@@ -404,18 +421,44 @@ fn refusals(list: &mut List) {
         list.add(MOV, REG, MOV_SYSTEM_VALUE ^ 1 << bit, PLAIN);
     }
     // i2i from 16 bits at byte 3 likewise.
-    let refused = PLAIN & !0xff00 | 1 << 10 | 3 << 41;
     for form in [REG, CBUF, IMM] {
-        for g in [7, 15, 0, 14] {
-            list.add(I2I, form, 0, guard(refused, g));
-            list.add(I2I, form, 0, guard(refused, g) | 0xff);
+        for g in 0..16 {
+            list.add(I2I, form, 0, guard(HALF_AT_BYTE_3, g));
         }
-        list.add(I2I, form, MOV_SYSTEM_VALUE, refused);
+        for g in [7, 15, 0, 14] {
+            list.add(I2I, form, 0, guard(HALF_AT_BYTE_3, g) | 0xff);
+        }
+        list.add(I2I, form, MOV_SYSTEM_VALUE, HALF_AT_BYTE_3);
     }
-    list.bits(I2I, &[REG], 0, refused, &[10, 11, 41, 42]);
-    list.bits(I2I, &[REG], 0, refused, &[12, 13, 50]);
+    list.bits(I2I, &[REG], 0, HALF_AT_BYTE_3, &[10, 11, 41, 42]);
+    list.bits(I2I, &[REG], 0, HALF_AT_BYTE_3, &[12, 13, 50]);
     for kind in [POPC, FLO, BFE, SHR] {
-        list.add(kind, REG, 0, refused);
+        list.add(kind, REG, 0, HALF_AT_BYTE_3);
+    }
+}
+
+fn dead_words(list: &mut List) {
+    // The value that 4 looks at in each form, and the fields that 5 looks at.
+    for kind in kinds() {
+        for form in [REG, CBUF, IMM] {
+            list.add(kind, form, MOV_SYSTEM_VALUE, guard(PLAIN, 15));
+        }
+        list.add(kind, REG, 0, guard(HALF_AT_BYTE_3, 15));
+    }
+    // The bits of both words one by one: those of the guard make it one that may run, all others leave the word dead.
+    for bit in 0..64 {
+        list.add(MOV, REG, MOV_SYSTEM_VALUE, guard(PLAIN, 15) ^ 1 << bit);
+        list.add(I2I, REG, 0, guard(HALF_AT_BYTE_3, 15) ^ 1 << bit);
+    }
+    // The last word of the last slot: no mark is raised.
+    let named = |word| guard(with_field(with_field(word, 34, 5, 31), 20, 14, 0x3fff), 15);
+    for value in [0, MOV_SYSTEM_VALUE] {
+        list.add(MOV, CBUF, value, named(PLAIN));
+        list.add(I2I, CBUF, value, named(HALF_AT_BYTE_3));
+        list.add(IADD, CBUF, value, named(PLAIN));
+    }
+    for form in [REG, CBUF, IMM] {
+        list.add(LEA, form, 0x1800 << 48, named(PLAIN));
     }
 }
 
@@ -439,7 +482,7 @@ mod tests {
     #[test]
     fn the_list_covers_what_it_says() {
         let records = records();
-        assert!((4000..=6100).contains(&records.len()), "{} records", records.len());
+        assert!((4000..=6500).contains(&records.len()), "{} records", records.len());
         let distinct: HashSet<_> = records.iter().collect();
         assert_eq!(distinct.len(), records.len());
         for kind in kinds() {
@@ -450,6 +493,24 @@ mod tests {
         }
         for number in 2..=5 {
             assert!(records.iter().any(|r| r.admit().err() == Some(number)), "refusal {number}");
+        }
+        // Dead words that are refused under any other guard, and their neighbours under all of these.
+        let sorts: [fn(&Record) -> bool; 2] = [Record::is_system_value_mov, Record::is_half_at_byte_3];
+        for (sort, number) in sorts.into_iter().zip([4, 5]) {
+            for form in [REG, CBUF, IMM] {
+                let of_sort: Vec<_> = records.iter().filter(|r| sort(r) && r.form == form).collect();
+                for g in 0..16 {
+                    let mut under = of_sort.iter().filter(|r| r.word == guard(r.word, g)).peekable();
+                    assert!(under.peek().is_some(), "{number} form {form} guard {g}");
+                    assert!(under.all(|r| r.admit().err() == (g != 15).then_some(number)));
+                }
+            }
+            let dead = records.iter().filter(|r| sort(r) && r.admit().is_ok()).count();
+            assert!(dead >= 50, "{dead} dead words in place of refusal {number}");
+        }
+        for kind in kinds() {
+            let dead = records.iter().filter(|r| r.kind == kind && r.never_runs() && r.admit().is_ok()).count();
+            assert!(dead >= 6, "{dead} dead words of kind {kind}");
         }
     }
 

@@ -61,7 +61,7 @@ fn what_01_calls_lacking_is_not_taken() {
             COMPILED.lines().find(|l| l.trim_start().trim_start_matches("pub ").starts_with(&format!("fn {start}(")));
         assert_eq!(found, None);
     }
-    assert!(!COMPILED.contains("0xf0c8000000000000"), "the mov of a system value is refused, not run");
+    assert!(!COMPILED.contains("0xf0c8000000000000"), "the mov of a system value is refused or dead, never run");
 }
 
 #[test]

@@ -197,6 +197,39 @@ fn guards() {
     }
 }
 
+/// A record under predicate 7 negated changes nothing and asks for no constant, whatever its kind, form and value: also
+/// mov of a system value and i2i of a half from byte 3 on, which are refused under any other guard.
+#[test]
+fn dead_words() {
+    let byte3 = 1 << 10 | 3 << 41;
+    for name in NAMES {
+        for form in [REG, CBUF, IMM] {
+            for value in [0, 0xf0c8, 0x1800] {
+                for word in [RB, cbuf(31, 16_383) | byte3] {
+                    // No constant is lent, and every truth there is holds or none does.
+                    let dead = given(name, form, word | bit(19)).value(value);
+                    assert!(dead.record.never_runs() && dead.constants.is_empty());
+                    dead.nothing();
+                    dead.all_p().flags([1; 4]).nothing();
+                }
+            }
+        }
+    }
+    // A constant is named, and would be read under a guard that holds.
+    let mov = given("mov", CBUF, cbuf(3, 4) | bit(19)).value(0xf0c8);
+    let i2i = given("i2i", CBUF, cbuf(3, 4) | byte3 | bit(19));
+    for (dead, number) in [(mov, 4), (i2i, 5)] {
+        assert!(element_read(&dead.record).is_some());
+        assert_eq!(lacking_word(&dead.record, &dead.state, &[]), None);
+        for guard in 0..15 {
+            let Given { mut record, state, .. } = dead.clone();
+            record.word ^= (15 ^ guard) << 16;
+            assert_eq!(record.admit().err(), Some(number), "guard {guard}");
+            assert_eq!(lacking_word(&record, &state, &[]).is_some(), guard_holds(&record, &state), "guard {guard}");
+        }
+    }
+}
+
 #[test]
 fn operands() {
     given("mov", REG, RB).r(3, 0x1234_5678).gives(0x1234_5678);

@@ -6,7 +6,7 @@
 use std::collections::BTreeSet;
 
 use oracle::format::{Entry, Layout, encode, kind};
-use oracle::generate::{random_admitted, with_field};
+use oracle::generate::{dead_word, random_admitted, with_field};
 use oracle::reach::{CELLS, CONSTANTS, FLAGS, PREDICATES, reach, reach_plain};
 use oracle::record::Record;
 use oracle::rng::Rng;
@@ -375,6 +375,29 @@ fn random_runs_by_the_second_definition() {
         same += usize::from(expected == asked);
     }
     assert!(grown > 2000 && shrunk > 1000 && same > 1000, "{grown} {shrunk} {same}");
+}
+
+/// Dead words load and store nothing, so a run with them gives the list that it gives without them.
+#[test]
+fn dead_words_leave_the_list() {
+    let mut rng = Rng::new(13);
+    let mut dead = 0;
+    for _ in 0..5000 {
+        let records: Vec<Record> = (0..rng.below(12))
+            .map(|_| if rng.one_in(2) { dead_word(&mut rng) } else { random_admitted(&mut rng) })
+            .collect();
+        let run_of = |records: &mut dyn Iterator<Item = &Record>| -> Vec<u8> {
+            records.flat_map(|record| translate(&record.to_bytes(), &mut [0; SLOTS]).unwrap()).collect()
+        };
+        let with = run_of(&mut records.iter());
+        let without = run_of(&mut records.iter().filter(|record| !record.never_runs()));
+        dead += with.len() - without.len();
+        let asked: [u8; CELLS] = std::array::from_fn(|_| u8::from(rng.one_in(8)));
+        let (mut found, mut expected) = (asked, asked);
+        assert_eq!((both(&with, &mut found), both(&without, &mut expected)), (Ok(()), Ok(())));
+        assert_eq!(found, expected);
+    }
+    assert!(dead > 10_000, "{dead}");
 }
 
 #[test]

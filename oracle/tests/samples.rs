@@ -1,14 +1,20 @@
 //! The works in `samples/`: the files are the records named here with the reference's answers, and the works do what
 //! `samples/README.md` says of them.
 
+use std::fs;
+use std::path::Path;
+
+use oracle::check::check;
 use oracle::evaluate::{Refusal, State, evaluate};
 use oracle::format::Layout;
+use oracle::meaning::{self, lacking_word, meaning};
 use oracle::print::print;
-use oracle::record::Record;
+use oracle::record::{RECORD_LEN, Record};
 use oracle::{SLOTS, translate};
 
 const MOV: u8 = 1;
 const IADD: u8 = 9;
+const I2I: u8 = 24;
 const P2R: u8 = 28;
 const REG: u8 = 0;
 const CBUF: u8 = 1;
@@ -16,6 +22,11 @@ const IMM: u8 = 2;
 
 /// No register: it reads 0.
 const RZ: u64 = 255;
+
+/// Guards: predicate 7 always holds, negated it never does; predicate 0 negated may hold.
+const PT: u64 = 7;
+const NOT_PT: u64 = 15;
+const NOT_P0: u64 = 8;
 
 /// Fields of a word, by their first bit.
 const RD: u32 = 0;
@@ -28,7 +39,12 @@ const WORD: u32 = 20;
 const SLOT: u32 = 34;
 /// mov: the lanes that take part.
 const LANES: u32 = 39;
-/// p2r: flags instead of predicates, and the byte.
+/// mov of a system value: which one.
+const SELECTOR: u32 = 20;
+/// i2i: size codes of the result and of the source.
+const TO_SIZE: u32 = 8;
+const FROM_SIZE: u32 = 10;
+/// p2r: flags instead of predicates, and the byte; i2i: the byte where the source begins.
 const FLAGS: u32 = 40;
 const BYTE: u32 = 41;
 /// iadd: reads the carry; sets the flags.
@@ -37,8 +53,12 @@ const CC: u32 = 47;
 
 /// A record whose word matches its opcode, under the guard that always holds.
 fn record(kind: u8, form: u8, opcode: u64, fields: &[(u32, u64)]) -> Record {
+    guarded(PT, kind, form, opcode, fields)
+}
+
+fn guarded(guard: u64, kind: u8, form: u8, opcode: u64, fields: &[(u32, u64)]) -> Record {
     let value = opcode << 48;
-    let word = fields.iter().fold(value | 7 << GUARD, |word, (lo, field)| word | field << lo);
+    let word = fields.iter().fold(value | guard << GUARD, |word, (lo, field)| word | field << lo);
     Record { kind, form, value, word }
 }
 
@@ -66,6 +86,15 @@ fn constants() -> Vec<Record> {
     ]
 }
 
+/// Two dead words, and the same words under guards that may run.
+fn padding() -> Vec<Record> {
+    // The lane, to R0; the half of R1 that begins at byte 3, as a word to R1.
+    let mov = |guard: u64| guarded(guard, MOV, REG, 0xf0c8, &[(RD, 0), (SELECTOR, 0)]);
+    let i2i =
+        |guard: u64| guarded(guard, I2I, REG, 0x5ce0, &[(RD, 1), (TO_SIZE, 2), (FROM_SIZE, 1), (RB, 1), (BYTE, 3)]);
+    vec![mov(NOT_PT), i2i(NOT_PT), mov(PT), i2i(NOT_P0)]
+}
+
 fn bytes(records: &[Record]) -> Vec<u8> {
     records.iter().flat_map(Record::to_bytes).collect()
 }
@@ -89,8 +118,40 @@ fn the_files_hold_the_named_records_and_the_answers_of_the_reference() {
     assert_eq!(include_str!("../../samples/conditions.txt"), printed(&bytes(&conditions())));
     assert_eq!(include_bytes!("../../samples/constants.bin")[..], bytes(&constants()));
     assert_eq!(include_str!("../../samples/constants.txt"), printed(&bytes(&constants())));
+    assert_eq!(include_bytes!("../../samples/padding.bin")[..], bytes(&padding()));
+    assert_eq!(include_str!("../../samples/padding.txt"), printed(&bytes(&padding())));
     let example = include_bytes!("../../samples/two_records.bin");
     assert_eq!(include_str!("../../samples/two_records.txt"), printed(example));
+}
+
+/// The input of the program `crates/check_run` is the run of all samples, in the order of their names, refused records
+/// left out; its line has the number of strips.
+#[test]
+fn the_checker_is_given_the_run_of_all_samples() {
+    let samples: [&[u8]; 5] = [
+        include_bytes!("../../samples/conditions.bin"),
+        include_bytes!("../../samples/constants.bin"),
+        include_bytes!("../../samples/count.bin"),
+        include_bytes!("../../samples/padding.bin"),
+        include_bytes!("../../samples/two_records.bin"),
+    ];
+    let mut marks = [0; SLOTS];
+    let strips: Vec<Vec<u8>> = samples
+        .iter()
+        .flat_map(|records| records.chunks(RECORD_LEN))
+        .filter_map(|record| translate(record, &mut marks).ok())
+        .collect();
+    assert_eq!(include_bytes!("../../crates/check_run/stdin")[..], strips.concat());
+    let mut line = Vec::new();
+    check(&strips.concat()[..], &mut line, Layout::Wide).expect("reading and writing bytes");
+    assert_eq!(include_str!("../../crates/check_run/stdout").as_bytes(), line);
+    assert_eq!(line, format!("well-formed, {} strips\n", strips.len()).as_bytes());
+    let answer = format!("\nThe answer is `well-formed, {} strips`", strips.len());
+    assert!(include_str!("../../README.md").contains(&answer), "{answer}");
+    // Every sample is among them.
+    let dir = Path::new(env!("CARGO_MANIFEST_DIR")).join("../samples");
+    let files = fs::read_dir(dir).expect("the samples").map(|file| file.expect("a file").path());
+    assert_eq!(files.filter(|path| path.extension().is_some_and(|end| end == "bin")).count(), samples.len());
 }
 
 #[test]
@@ -163,4 +224,27 @@ fn the_first_constant_that_is_not_lent_is_named() {
     assert_eq!(evaluated(first), Err(Refusal::Constant { slot: 3, vec: 17, comp: 2 }));
     assert_eq!(evaluated(first + 1), Err(Refusal::Constant { slot: 3, vec: 17, comp: 3 }));
     assert_eq!(evaluated(first + 2), Ok(42));
+}
+
+#[test]
+fn the_padding_changes_nothing_and_needs_no_constant() {
+    let padding = padding();
+    let answers: Vec<Option<u8>> = padding.iter().map(|record| record.admit().err()).collect();
+    assert_eq!(answers, [None, None, Some(4), Some(5)]);
+    let dead = &padding[..2];
+    assert!(dead.iter().all(Record::never_runs) && !padding[2..].iter().any(Record::never_runs));
+    let run = run(dead);
+    assert_eq!(run, [0xff, 0xff]);
+    // With every predicate false, and with every one true.
+    for truth in [false, true] {
+        let registers = std::array::from_fn(|at| 0x9e37_79b9_u32.wrapping_mul(at as u32 + 1));
+        let (predicates, flags) = ([truth; 7], [truth, !truth, !truth, truth]);
+        let state = State { registers, predicates, flags };
+        assert_eq!(evaluate(&run, Layout::Wide, &state, &[]), Ok(state));
+        let state = meaning::State { registers, predicates, flags };
+        for record in dead {
+            assert_eq!(lacking_word(record, &state, &[]), None);
+            assert_eq!(meaning(record, &state, &[]), state);
+        }
+    }
 }

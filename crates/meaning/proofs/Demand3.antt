@@ -17,7 +17,7 @@ use Rattle.reach.proofs.Isolation.{Agree, Starts, isolation, storedIn, unchange
 use Rattle.translation.specs.declared.answer.Outcome.{Outcome}
 use Rattle.translation.specs.declared.answer.Outcome.the-variants.{Written, Refused}
 use Rattle.translation.specs.declared.answer.Refusal.{Refusal}
-use Rattle.translation.specs.Strip.{strip, insnOf, admits, admitted, lengthOf}
+use Rattle.translation.specs.Strip.{strip, insnOf, admits, lengthOf}
 use Rattle.translation.proofs.Shape.{Accepted, accepted as accepted-is}
 use Rattle.translation.specs.Turn.{runOf, Room, RecordAndMarks, turnDecision, turn, inTurn, accepted}
 use Rattle.meaning.proofs.Demand1.{refused-untouched}

@@ -15,7 +15,7 @@ use Rattle.meaning.specs.Record.{Record}
 use Rattle.meaning.proofs.Reading.{insn}
 use Rattle.translation.specs.Arms.{armOf}
 use Rattle.translation.specs.Strip.{known, byteThree}
-use Rattle.meaning.specs.Meaning.{meant, mayRead, reads, lent}
+use Rattle.meaning.specs.Meaning.{meant, mayRead, readsWhenRun, lent}
 use Rattle.translation.proofs.Sem.{halted, sem}
 use Rattle.translation.proofs.Stays.{Proper}
 use Rattle.meaning.proofs.Helper.{asked, final, missing}
@@ -77,13 +77,13 @@ module _ (cs : List ℕ) (i : Record) (s : State) where
   reads-none e = absurd (false≢true (rw (and-false (eqb (i .form) 1)) at e))
 
   Does : ℕ → Type 0
-  Does k = Proper cs s → byteThree k (insn i) ≡ false → reads (of k) && not (lent cs i) ≡ false → final (sem cs (armOf k (insn i)) [] s) ≡ some (meant cs (of k) s)
+  Does k = Proper cs s → byteThree k (insn i) ≡ false → readsWhenRun (of k) && not (lent cs i) ≡ false → final (sem cs (armOf k (insn i)) [] s) ≡ some (meant cs (of k) s)
 
   Misses : ℕ → Type 0
-  Misses k = reads (of k) && not (lent cs i) ≡ true → sem cs (armOf k (insn i)) [] s ≡ halted (asked i) s
+  Misses k = readsWhenRun (of k) && not (lent cs i) ≡ true → sem cs (armOf k (insn i)) [] s ≡ halted (asked i) s
 
   arms-do : Each Does kinds
-  unfolding Does armOf meant mayRead reads T.bits T.bit
+  unfolding Does armOf meant mayRead readsWhenRun T.bits T.bit
   arms-do =
       also (λ w h e. mov-does cs (of 1) s (as-b e))
       (also (λ w h e. mov32i-does cs (of 2) s)
@@ -117,7 +117,7 @@ module _ (cs : List ℕ) (i : Record) (s : State) where
       (also (λ w h e. lea-does cs (of 30) s e w) tt)))))))))))))))))))))))))))))
 
   arms-miss : Each Misses kinds
-  unfolding Misses armOf mayRead reads T.bits T.bit
+  unfolding Misses armOf mayRead readsWhenRun T.bits T.bit
   arms-miss =
       also (λ e. mov-missing cs (of 1) s (as-b e))
       (also reads-none
@@ -151,11 +151,11 @@ module _ (cs : List ℕ) (i : Record) (s : State) where
       (also (λ e. lea-missing cs (of 30) s e) tt)))))))))))))))))))))))))))))
 
 module _ (cs : List ℕ) (i : Record) (s : State) where
-  pub arm-does : Proper cs s → known (i .kind) ≡ true → byteThree (i .kind) (insn i) ≡ false → reads i && not (lent cs i) ≡ false
+  pub arm-does : Proper cs s → known (i .kind) ≡ true → byteThree (i .kind) (insn i) ≡ false → readsWhenRun i && not (lent cs i) ≡ false
       → final (sem cs (armOf (i .kind) (insn i)) [] s) ≡ some (meant cs i s)
   unfolding Does
   arm-does w h = member (Does cs i s) kinds (i .kind) (known-among (i .kind) h) (arms-do cs i s) w
 
-  pub arm-missing : known (i .kind) ≡ true → reads i && not (lent cs i) ≡ true → sem cs (armOf (i .kind) (insn i)) [] s ≡ halted (asked i) s
+  pub arm-missing : known (i .kind) ≡ true → readsWhenRun i && not (lent cs i) ≡ true → sem cs (armOf (i .kind) (insn i)) [] s ≡ halted (asked i) s
   unfolding Misses
   arm-missing h = member (Misses cs i s) kinds (i .kind) (known-among (i .kind) h) (arms-miss cs i s)

@@ -1,7 +1,8 @@
 -- A record translated and its strip evaluated: the refusals are 01's, and the state is that of the meaning.
 use mathlib.Core.Path.{_≡_, refl, sym, ap, _∙_}
-use mathlib.Core.Bool.{Bool, true, false, cond, not}
+use mathlib.Core.Bool.{Bool, true, false, cond, not, _&&_}
 use mathlib.Core.List.{List, [], _∷_, map}
+use mathlib.Core.Option.{Option, none, some}
 use Prim.Native.Nat.{ℕ, zero, suc, _-_, _^_, _≤_, _<_}
 use native.Mathlib.Omega.{arith}
 use lib.Dec.{eqb, ltb, leb}
@@ -13,7 +14,7 @@ use denote.Struct.Field.{u32-field}
 use borrow.Author.Tests.{le-leb}
 use Rattle.strip.specs.Entry.{wide}
 use Rattle.evaluation.specs.declared.state.State.{State}
-use Rattle.evaluation.specs.Machine.{Answer, refusalTold, told, returns, ends, answerOf as evaluationAnswer, evaluation}
+use Rattle.evaluation.specs.Machine.{refusalTold, told, returns, ends, answerOf as evaluationAnswer, evaluation}
 use Rattle.evaluation.specs.declared.machine.Evaluated.{Evaluated}
 use Rattle.evaluation.specs.declared.machine.Outcome.{Outcome as EvaluationOutcome}
 use Rattle.evaluation.specs.declared.machine.Outcome.the-variants.{Done, Refused as EvaluationRefused}
@@ -23,57 +24,78 @@ use Rattle.translation.specs.declared.answer.Outcome.the-variants.{Written, Ref
 use Rattle.translation.specs.declared.answer.Refusal.{Refusal}
 use Rattle.translation.specs.declared.answer.Refusal.the-variants.{BadLength, UnknownKind, UnknownForm, SystemValueMov, ByteThree, NoRoom}
 use Rattle.translation.specs.Insn as T
-use Rattle.translation.specs.Strip.{insnOf, known, systemValueMov, byteThree, admits, refusalNumber, numberOf as outcomeNumber, Decision, refused, admitted, fitted, decision, answerOf, translation}
+use Rattle.translation.specs.Strip as S
+use Rattle.translation.specs.Strip.{insnOf, known, systemValueMov, byteThree, firstRefusal, isNone, admits, refusalNumber, numberOf as outcomeNumber, Decision, fitted, answered, decision, answerOf, translation}
 use Rattle.translation.specs.Whole.{decisionOf as translated}
 use Rattle.translation.proofs.Stays.{Proper}
 use Rattle.translation.proofs.Decided.{decided}
+use Rattle.translation.proofs.Refusals.{numberOrZero, tested, refusal-tested}
 use Rattle.translation.proofs.Shape.{accepted, accepted-strip}
 use Rattle.translation.proofs.Whole.{whole}
-use Rattle.meaning.specs.Record.{Record, recordOf}
+use Rattle.meaning.specs.Record.{Record, recordOf, bits}
 use Rattle.meaning.specs.Interpret.{refusalOf, refusal, unlent, namedWord, interpretation}
-use Rattle.meaning.specs.Meaning.{meaning}
+use Rattle.meaning.specs.Meaning.{opcode, neverRuns, meaning}
 use Rattle.translation.specs.Turn.{stripAt}
 use Rattle.meaning.proofs.Order.{not-leb}
 use Rattle.meaning.proofs.Reading.{insn, kind-same, insn-same}
+use Rattle.meaning.proofs.Guard.{never-same}
 use Rattle.meaning.proofs.Helper.{asked}
 use Rattle.meaning.proofs.Means.{recordAnswer, record-means}
 
 -- ---- the refusals of a record are the translator's
 
--- the number of the first of five tests that refuses
-abbrev tests : (a b c d e : Bool) → ℕ
-tests a b c d e = cond a (cond b (cond c 3 (cond d 4 (cond e 5 0))) 2) 1
+refusal-of : (i : Record) → refusalOf i
+    ≡ numberOrZero (tested true (known (i .kind)) (ltb 2 (i .form)) (S.neverRuns (insn i)) (systemValueMov (i .kind) (insn i)) (byteThree (i .kind) (insn i)))
+unfolding refusalOf refusalNumber known systemValueMov byteThree T.bits
+refusal-of i =
+    rw (← not-leb (i .form) 2, ← never-same i)
+    (go (leb 1 (i .kind) && leb (i .kind) 30) (leb (i .form) 2) (neverRuns i) (eqb (i .kind) 1 && opcode i 61640) (eqb (i .kind) 24 && (eqb (bits i 10 2) 1 && eqb (bits i 41 2) 3)))
+  where
+    go : (b c d e f : Bool) → cond b (cond c (cond d 0 (cond e 4 (cond f 5 0))) 3) 2 ≡ numberOrZero (tested true b (not c) d e f)
+    go false c d e f = refl
+    go true false d e f = refl
+    go true true true e f = refl
+    go true true false true f = refl
+    go true true false false true = refl
+    go true true false false false = refl
 
-turned : (b : Bool) (x y : ℕ) → cond b x y ≡ cond (not b) y x
-turned true x y = refl
-turned false x y = refl
-
-refusal-of : (i : Record) → refusalOf i ≡ tests true (known (i .kind)) (ltb 2 (i .form)) (systemValueMov (i .kind) (insn i)) (byteThree (i .kind) (insn i))
-unfolding refusalOf known systemValueMov byteThree T.bits
-refusal-of i = rw (← not-leb (i .form) 2, turned (leb (i .form) 2)) refl
-
-refusal-is : (l : List ℕ) → refusal l ≡ tests (eqb (length l) 18) (known (getD l 0 0)) (ltb 2 (insnOf l .form)) (systemValueMov (getD l 0 0) (insnOf l)) (byteThree (getD l 0 0) (insnOf l))
-unfolding refusal
+-- of all bytes, the number that the meanings give is that of the translator's first refusal
+pub refusal-is : (l : List ℕ) → refusal l ≡ numberOrZero (firstRefusal l)
+unfolding refusal refusalNumber
 refusal-is l =
-    rw (refusal-of (recordOf l), kind-same l)
-    (ap (λ (x : T.Insn). tests (eqb (length l) 18) (known (getD l 0 0)) (ltb 2 (x .form)) (systemValueMov (getD l 0 0) x) (byteThree (getD l 0 0) x)) (insn-same l))
+    rw (refusal-tested l, refusal-of (recordOf l), kind-same l)
+    (ap (λ (x : T.Insn). cond (eqb (length l) 18) (numberOrZero (tested true k (ltb 2 (x .form)) (S.neverRuns x) (systemValueMov (getD l 0 0) x) (byteThree (getD l 0 0) x))) 1) (insn-same l)
+    ∙ go (eqb (length l) 18) k (ltb 2 (insnOf l .form)) (S.neverRuns (insnOf l)) (systemValueMov (getD l 0 0) (insnOf l)) (byteThree (getD l 0 0) (insnOf l)))
+  where
+    k : Bool
+    k = known (getD l 0 0)
+
+    go : (a b c d e f : Bool) → cond a (numberOrZero (tested true b c d e f)) 1 ≡ numberOrZero (tested a b c d e f)
+    go true b c d e f = refl
+    go false b c d e f = refl
+
+-- so both admit the same records
+pub admits-same : (l : List ℕ) → admits l ≡ eqb (refusal l) 0
+unfolding admits refusalNumber
+admits-same l = rw (refusal-is l) (go (firstRefusal l))
+  where
+    go : (a : Option Refusal) → isNone a ≡ eqb (numberOrZero a) 0
+    go none = refl
+    go (some BadLength) = refl
+    go (some UnknownKind) = refl
+    go (some UnknownForm) = refl
+    go (some SystemValueMov) = refl
+    go (some ByteThree) = refl
+    go (some NoRoom) = refl
 
 -- in a room of 255 bytes or more no strip is too long, so the translator's number is the record's
 pub number-is : (l m out : List ℕ) → 255 ≤ length out → outcomeNumber (decision l m out .outcome) ≡ refusal l
-unfolding decision admitted fitted outcomeNumber refusalNumber
-number-is l m out h =
-    rw (refusal-is l)
-    (go (eqb (length l) 18) (known (getD l 0 0)) (ltb 2 (insnOf l .form)) (systemValueMov (getD l 0 0) (insnOf l)) (byteThree (getD l 0 0) (insnOf l)))
+unfolding decision fitted outcomeNumber
+number-is l m out h = rw (refusal-is l) (go (firstRefusal l))
   where
-    go : (a b c d e : Bool)
-        → outcomeNumber (cond a (cond b (cond c (refused UnknownForm m out) (cond d (refused SystemValueMov m out) (cond e (refused ByteThree m out) (fitted (getD l 0 0) (insnOf l) m out)))) (refused UnknownKind m out)) (refused BadLength m out) .outcome)
-        ≡ tests a b c d e
-    go false b c d e = refl
-    go true false c d e = refl
-    go true true true d e = refl
-    go true true false true e = refl
-    go true true false false true = refl
-    go true true false false false = rw (le-leb (length (stripAt l)) (length out) (omega (arith, whole (getD l 0 0) (insnOf l) out .short))) refl
+    go : (a : Option Refusal) → outcomeNumber (answered a (getD l 0 0) (insnOf l) m out .outcome) ≡ numberOrZero a
+    go none = rw (le-leb (length (stripAt l)) (length out) (omega (arith, whole (getD l 0 0) (insnOf l) out .short))) refl
+    go (some r) = refl
 
 -- ---- the answer
 

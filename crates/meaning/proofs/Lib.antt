@@ -1,4 +1,5 @@
 pub mod Reading
+pub mod Guard
 pub mod Order
 pub mod Helper
 pub mod Moves
@@ -23,3 +24,4 @@ pub mod Demand1
 pub mod Demand3
 pub mod Works
 pub mod Interpreted
+pub mod Dead

@@ -5,13 +5,11 @@ use mathlib.Core.List.{List, [], _∷_, _++_, map}
 use mathlib.Core.Option.{some}
 use Prim.Native.Nat.{ℕ}
 use native.Mathlib.Omega.{arith}
-use lib.Dec.{eqb, ltb}
-use lib.ListN.{length, getD}
-use borrow.Author.Tests.{not-true}
+use lib.ListN.{getD}
 use Rattle.strip.specs.declared.reader.Entry.{Entry}
 use Rattle.strip.specs.Entry.{wide, Each, Formed}
 use Rattle.strip.specs.Shape.{all, endsOnce, stripOk, shapeOk, stripBytes, runBytes}
-use Rattle.strip.proofs.Tests.{and-left, and-right}
+use Rattle.strip.proofs.Tests.{and-left}
 use Rattle.strip.proofs.Run.{Strip, strips-run, strips-shape}
 use Rattle.evaluation.specs.declared.state.State.{State}
 use Rattle.evaluation.specs.declared.machine.Outcome.{Outcome}
@@ -21,14 +19,19 @@ use Rattle.evaluation.specs.Machine.{isDone, begun, ends, onward, entriesFrom, 
 use Rattle.evaluation.proofs.Flat.{evaluated-strips}
 use Rattle.evaluation.proofs.Laws.{restored-twice}
 use Rattle.evaluation.proofs.Words.{Sized, undefined-sized}
+use Rattle.reach.specs.declared.cells.Cells.{Cells}
+use Rattle.reach.specs.declared.cells.Outcome.the-variants.{Done as ReachDone}
+use Rattle.reach.specs.Reach.{reachStrips, reached}
 use Rattle.translation.specs.Insn as T
 use Rattle.translation.specs.Arms.{armOf}
-use Rattle.translation.specs.Strip.{entriesOf, strip, insnOf, known, systemValueMov, byteThree, admits}
+use Rattle.translation.specs.Strip as S
+use Rattle.translation.specs.Strip.{entriesOf, strip, insnOf, known, byteThree, admits}
+use Rattle.translation.proofs.Refusals.{admitted-known}
 use Rattle.translation.proofs.Arms.{arm-range}
 use Rattle.translation.proofs.Shape.{strip-well-formed, strip-shape, strip-decodes}
 use Rattle.meaning.specs.Record.{Record, recordOf}
 use Rattle.meaning.specs.Operand.{pred}
-use Rattle.meaning.specs.Meaning.{runs, meant, meaning, reads, lent}
+use Rattle.meaning.specs.Meaning.{runs, meant, meaning, readsWhenRun, reads, lent}
 use Rattle.meaning.specs.Interpret.{unlent, meanings}
 use Rattle.translation.specs.Turn.{stripAt, runOf}
 use Rattle.meaning.proofs.Reading.{insn, kind-same, insn-same}
@@ -36,6 +39,7 @@ use Rattle.translation.proofs.Sem.{Ran, ran, halted, sem}
 use Rattle.translation.proofs.Evaluated.{predicateAt, stripAnswer, strip-evaluated}
 use Rattle.meaning.proofs.Helper.{asked, final}
 use Rattle.translation.proofs.Stays.{Proper, Stays, stays}
+use Rattle.meaning.proofs.Guard.{never-same, runs-sometimes}
 use Rattle.meaning.proofs.EveryArm.{arm-does, arm-missing}
 
 -- ---- one record
@@ -52,41 +56,45 @@ final-stays : (cs : List ℕ) (t : State) (r : Ran) → final r ≡ some t → S
 final-stays cs t (ran u v) e p = let q : u ≡ t = cc in rw (← q) (p .0)
 final-stays cs t (halted r u) e p = let z : _≡_ {A = ℕ} 0 1 = cc in absurd (omega arith)
 
-module _ (cs : List ℕ) (i : Record) (s : State) (w : Proper cs s) (hk : known (i .kind) ≡ true) (hb : byteThree (i .kind) (insn i) ≡ false) where
+module _ (cs : List ℕ) (i : Record) (s : State) (w : Proper cs s) (hk : known (i .kind) ≡ true) (hb : S.neverRuns (insn i) ≡ false → byteThree (i .kind) (insn i) ≡ false) where
   abbrev arm : Ran
   arm = sem cs (armOf (i .kind) (insn i)) [] s
+
+  -- where the record runs its guard is none that never holds: its arm is supported, and it reads what its arm reads
+  runs-supported : runs i s ≡ true → byteThree (i .kind) (insn i) ≡ false
+  runs-supported r = hb (rw (← never-same i) (runs-sometimes i s r))
+
+  runs-reads : runs i s ≡ true → readsWhenRun i ≡ reads i
+  unfolding reads
+  runs-reads r = rw (runs-sometimes i s r) refl
 
   -- T6 and T7: 9 where its guard holds and a word that it reads is not lent, else exactly the state of the meaning; never 7, never 8
   pub strip-means : evaluated wide (strip (i .kind) (insn i)) s cs ≡ recordAnswer cs i s
   unfolding recordAnswer unlent meaning pred predicateAt T.bits T.bit
-  strip-means = strip-evaluated cs (i .kind) (insn i) s ∙ go (runs i s) (reads i && not (lent cs i)) refl
+  strip-means = strip-evaluated cs (i .kind) (insn i) s ∙ go (runs i s) (reads i && not (lent cs i)) refl refl
     where
-      go : (b m : Bool) → reads i && not (lent cs i) ≡ m
+      go : (b m : Bool) → runs i s ≡ b → reads i && not (lent cs i) ≡ m
           → cond b (stripAnswer s arm) (ends Done s) ≡ cond (b && m) (ends (Refused (asked i)) s) (ends Done (cond b (meant cs i s) s))
-      go false m e = refl
-      go true true e = rw (arm-missing cs i s hk e) refl
-      go true false e = final-answer s (meant cs i s) arm (arm-does cs i s w hk hb e)
+      go false m r e = refl
+      go true true r e = rw (arm-missing cs i s hk (rw (runs-reads r) e)) refl
+      go true false r e = final-answer s (meant cs i s) arm (arm-does cs i s w hk (runs-supported r) (rw (runs-reads r) e))
 
   -- the meaning is again a state of words
   pub meaning-proper : unlent cs i s ≡ false → Proper cs (meaning cs i s)
   unfolding unlent meaning valueAt
-  meaning-proper = go (runs i s)
+  meaning-proper = go (runs i s) refl
     where
       no-values : (l : ℕ) → Sized (valueAt [] l)
       no-values l = undefined-sized
 
-      go : (b : Bool) → b && (reads i && not (lent cs i)) ≡ false → Proper cs (cond b (meant cs i s) s)
-      go true e = final-stays cs (meant cs i s) arm (arm-does cs i s w hk hb e) (stays cs (armOf (i .kind) (insn i)) [] s (arm-range (i .kind) (insn i)) w no-values)
-      go false e = w
+      go : (b : Bool) → runs i s ≡ b → b && (reads i && not (lent cs i)) ≡ false → Proper cs (cond b (meant cs i s) s)
+      go true r e = final-stays cs (meant cs i s) arm (arm-does cs i s w hk (runs-supported r) (rw (runs-reads r) e)) (stays cs (armOf (i .kind) (insn i)) [] s (arm-range (i .kind) (insn i)) w no-values)
+      go false r e = w
 
 -- of a record's bytes
-pub admits-known : (l : List ℕ) → admits l ≡ true → (known (recordOf l .kind) ≡ true) × (byteThree (recordOf l .kind) (insn (recordOf l)) ≡ false)
-unfolding admits
-admits-known l h =
-    let a = and-right (eqb (length l) 18) _ h in
-    let b = and-right (known (getD l 0 0)) _ a in
-    let c = and-right (not (ltb 2 (insnOf l .form))) _ b in
-    (rw (kind-same l) (and-left (known (getD l 0 0)) _ a), rw (kind-same l) (subst (λ (x : T.Insn). byteThree (getD l 0 0) x ≡ false) (sym (insn-same l)) (not-true (byteThree (getD l 0 0) (insnOf l)) (and-right (not (systemValueMov (getD l 0 0) (insnOf l))) _ c))))
+pub admits-known : (l : List ℕ) → admits l ≡ true
+    → (known (recordOf l .kind) ≡ true) × (S.neverRuns (insn (recordOf l)) ≡ false → byteThree (recordOf l .kind) (insn (recordOf l)) ≡ false)
+admits-known l h = rw (kind-same l) (subst (λ (x : T.Insn). (known (getD l 0 0) ≡ true) × (S.neverRuns x ≡ false → byteThree (getD l 0 0) x ≡ false)) (sym (insn-same l)) (admitted-known l h))
 
 strip-at : (l : List ℕ) → strip (recordOf l .kind) (insn (recordOf l)) ≡ stripAt l
 strip-at l = rw (kind-same l) (ap (strip (getD l 0 0)) (insn-same l))
@@ -112,7 +120,7 @@ restored-on s r f = go (r .outcome) refl
     go Done e = refl
     go (Refused q) e = rw e refl
 
-abbrev entriesAt : List ℕ → List Entry
+abbrev pub entriesAt : List ℕ → List Entry
 entriesAt l = entriesOf (getD l 0 0) (insnOf l)
 
 strips-bytes : (ls : List (List ℕ)) → runOf ls ≡ runBytes wide (map entriesAt ls)
@@ -137,8 +145,12 @@ strips-ended (l ∷ ls) = let o = strip-well-formed (getD l 0 0) (insnOf l) in (
 pub strips-shaped : (ls : List (List ℕ)) → shapeOk wide (runOf ls) ≡ true
 strips-shaped ls = rw (strips-bytes ls) (strips-shape wide (map entriesAt ls) (strips-formed ls) (strips-pass ls))
 
-strips-from : (cs : List ℕ) (s : State) (ls : List (List ℕ)) → evaluated wide (runOf ls) s cs ≡ restored s (stripsFrom cs s (map entriesAt ls))
+pub strips-from : (cs : List ℕ) (s : State) (ls : List (List ℕ)) → evaluated wide (runOf ls) s cs ≡ restored s (stripsFrom cs s (map entriesAt ls))
 strips-from cs s ls = evaluated-strips s cs wide (runOf ls) (map entriesAt ls) (rw (strips-bytes ls) (strips-run wide (map entriesAt ls) (strips-ended ls))) (strips-shaped ls)
+
+pub strips-reached : (asked : Cells) (ls : List (List ℕ)) → reached (runOf ls) asked ≡ record { cells = reachStrips (map entriesAt ls) asked; outcome = ReachDone }
+unfolding reached
+strips-reached asked ls = rw (strips-shaped ls, strips-bytes ls, strips-run wide (map entriesAt ls) (strips-ended ls)) refl
 
 -- one strip is a run of one
 one-strip : (cs : List ℕ) (s : State) (l : List ℕ) → restored s (onward (entriesFrom cs (begun s) (entriesAt l)) (λ t. ends Done t)) ≡ evaluated wide (stripAt l) s cs

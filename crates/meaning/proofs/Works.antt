@@ -15,10 +15,11 @@ use Rattle.evaluation.specs.declared.machine.Outcome.the-variants.{Done}
 use Rattle.evaluation.specs.declared.machine.Evaluated.{Evaluated}
 use Rattle.evaluation.specs.Machine.{onward, ends, evaluated}
 use Rattle.translation.specs.Insn as T
-use Rattle.translation.specs.Strip.{known, systemValueMov, byteThree, admits}
+use Rattle.translation.specs.Strip.{neverRuns, known, systemValueMov, byteThree, firstRefusalOf, firstRefusal, admits}
 use Rattle.meaning.specs.Number.{signedOf, wordOf, bitAt, fromBits, inserted}
 use Rattle.meaning.specs.Operand.{reg, setReg, pred, flag, setFlags, operandB}
-use Rattle.meaning.specs.Meaning.{carryBit, overflows, complementIf, negateIf, prepared, carryIn, setSumFlags, added, sum, cellBit, packed, meant, meaning, reads}
+use Rattle.meaning.specs.Meaning.{carryBit, overflows, complementIf, negateIf, prepared, carryIn, setSumFlags, added, sum, cellBit, packed, meant, meaning, readsWhenRun, reads}
+use Rattle.meaning.specs.Meaning as M
 use Rattle.meaning.specs.Record.{numberAt, recordOf, simm20}
 use Rattle.meaning.specs.Interpret.{unlent, meanings}
 use Rattle.translation.specs.Turn.{runOf}
@@ -99,11 +100,11 @@ unfolding high meaning meant reg pred operandB prepared complementIf negateIf ca
 high-is cs s = let e : reg s 1 + 0 + carryBit s ≡ reg s 1 + carryBit s = omega arith in ap (λ (x : ℕ). setReg s 1 (x % 2 ^ 32)) e
 
 count-admitted : Each (λ l. admits l ≡ true) countRecords
-unfolding admits known systemValueMov byteThree recordOf numberAt T.bits
+unfolding admits firstRefusal firstRefusalOf neverRuns known systemValueMov byteThree recordOf numberAt T.bits T.bit
 count-admitted = (refl, (refl, tt))
 
 count-reads : (cs : List ℕ) → Each (Lent cs) countRecords
-unfolding reads recordOf numberAt
+unfolding reads readsWhenRun M.neverRuns recordOf numberAt
 count-reads cs = (refl, (refl, tt))
 
 two-words : (a b : ℕ) (c : Bool) → a < 2 ^ 32 → b < 2 ^ 32 → leb (2 ^ 32) (a + 1) ≡ c → (b + cond c 1 0) % 2 ^ 32 * 2 ^ 32 + (a + 1) % 2 ^ 32 ≡ (b * 2 ^ 32 + a + 1) % 2 ^ 64
@@ -122,8 +123,8 @@ module _ (cs : List ℕ) (s : State) (w : Words cs s) where
   low-length = sum-length 1 s ∙ w .size
 
   low-proper : Proper cs low
-  unfolding low known byteThree unlent reads pred xor recordOf numberAt T.bits
-  low-proper = rw (← low-is cs s) (meaning-proper cs (recordOf countLow) s (w .proper) refl refl refl)
+  unfolding low known byteThree unlent reads readsWhenRun M.neverRuns pred xor recordOf numberAt T.bits
+  low-proper = rw (← low-is cs s) (meaning-proper cs (recordOf countLow) s (w .proper) refl (λ e. refl) refl)
 
   next-same : reg next 1 ≡ (reg s 1 + cond (leb (2 ^ 32) (reg s 0 + 1)) 1 0) % 2 ^ 32
   unfolding next high low
@@ -134,9 +135,9 @@ module _ (cs : List ℕ) (s : State) (w : Words cs s) where
   next-other m h = stored-other low 1 _ refl m h
 
   next-words : Words cs next
-  unfolding next high known byteThree unlent reads pred xor recordOf numberAt T.bits
+  unfolding next high known byteThree unlent reads readsWhenRun M.neverRuns pred xor recordOf numberAt T.bits
   next-words = record {
-    proper = rw (← high-is cs low) (meaning-proper cs (recordOf countHigh) low low-proper refl refl refl);
+    proper = rw (← high-is cs low) (meaning-proper cs (recordOf countHigh) low low-proper refl (λ e. refl) refl);
     size = stored-length low 1 _ refl ∙ low-length;
   }
 
@@ -213,11 +214,11 @@ unfolding packs meaning meant pred xor recordOf numberAt
 packs-is cs s = refl
 
 conditions-admitted : Each (λ l. admits l ≡ true) conditionsRecords
-unfolding admits known systemValueMov byteThree recordOf numberAt T.bits
+unfolding admits firstRefusal firstRefusalOf neverRuns known systemValueMov byteThree recordOf numberAt T.bits T.bit
 conditions-admitted = (refl, (refl, tt))
 
 conditions-reads : (cs : List ℕ) → Each (Lent cs) conditionsRecords
-unfolding reads recordOf numberAt
+unfolding reads readsWhenRun M.neverRuns recordOf numberAt
 conditions-reads cs = (refl, (refl, tt))
 
 -- four truths at bits 8 to 11

@@ -10,15 +10,17 @@ use Rattle.meaning.specs.declared.interpreter.Outcome.{Outcome}
 use Rattle.meaning.specs.declared.interpreter.Outcome.the-variants.{Done, Refused, NoConstant}
 use Rattle.meaning.specs.declared.interpreter.Interpreted.{Interpreted}
 use Rattle.meaning.specs.Record.{Record, recordOf, bits, constantSlot, constantWord}
-use Rattle.meaning.specs.Meaning.{opcode, runs, meaning, reads, lent}
+use Rattle.meaning.specs.Meaning.{opcode, runs, neverRuns, meaning, reads, lent}
 
--- 01's number of the first refusal that holds of a record, of 2 to 5; 0 of one that 01 admits
+-- 01's number of the first refusal that holds of a record, of 2 to 5; 0 of one that 01 admits. What never runs needs no support (#104), so 4 and 5
+-- do not hold of it
 unfoldable pub refusalOf : Record → ℕ
 refusalOf i =
     cond (leb 1 (i .kind) && leb (i .kind) 30)
     (cond (leb (i .form) 2)
+    (cond (neverRuns i) 0
     (cond (eqb (i .kind) 1 && opcode i 61640) 4  -- mov, 0xf0c8
-    (cond (eqb (i .kind) 24 && (eqb (bits i 10 2) 1 && eqb (bits i 41 2) 3)) 5 0))  -- i2i of a half from byte 3 on
+    (cond (eqb (i .kind) 24 && (eqb (bits i 10 2) 1 && eqb (bits i 41 2) 3)) 5 0)))  -- i2i of a half from byte 3 on
     3)
     2
 

@@ -16,6 +16,10 @@ use Rattle.meaning.specs.Operand.{reg, setReg, pred, setPred, flag, setF
 abbrev pub runs : Record → State → Bool
 runs i s = predIf s (bits i 16 3) (bit i 19)
 
+-- it never does: predicate 7, which reads true in every state, negated
+unfoldable pub neverRuns : Record → Bool
+neverRuns i = eqb (bits i 16 3) 7 && bit i 19
+
 -- the opcode's value is n × 2 ^ 48: the Rust writes it in hex, and so do the comments
 abbrev pub opcode : Record → ℕ → Bool
 opcode i n = eqb (i .value) (n * 2 ^ 48)
@@ -493,8 +497,12 @@ mayRead k = not (eqb k 2 || (eqb k 4 || (eqb k 7 || (eqb k 8 || (eqb k 10 || (eq
 abbrev pub leaReads : Record → Bool
 leaReads i = leaConstant i || (not (leaReg i) && eqb (i .form) 1)
 
+unfoldable pub readsWhenRun : Record → Bool
+readsWhenRun i = cond (eqb (i .kind) 30) (leaReads i) (eqb (i .form) 1 && mayRead (i .kind))
+
+-- what never runs reads none
 unfoldable pub reads : Record → Bool
-reads i = cond (eqb (i .kind) 30) (leaReads i) (eqb (i .form) 1 && mayRead (i .kind))
+reads i = not (neverRuns i) && readsWhenRun i
 
 abbrev pub lent : List ℕ → Record → Bool
 lent ks i = ltb (constantPlace i) (length ks)

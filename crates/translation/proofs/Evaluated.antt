@@ -24,7 +24,7 @@ use Rattle.translation.specs.Insn.{Insn}
 use Rattle.translation.specs.Code.{Code, ret, op, act, call, mark, ite, renamed, at, ats, Built, build}
 use Rattle.translation.specs.Helpers.{logicalNotIf, predicate, p}
 use Rattle.translation.specs.Arms.{armOf}
-use Rattle.translation.specs.Strip.{guard, guardNot, block, guarded, entriesOf, strip}
+use Rattle.translation.specs.Strip.{guard, guardNot, neverRuns, block, guarded, entriesOf, strip}
 use Rattle.translation.proofs.Fits.{next-bound}
 use Rattle.translation.proofs.Typed.{givesValue, givesNone, within, closed}
 use Rattle.translation.proofs.Arms.{arm-sized, guard-sized}
@@ -140,6 +140,11 @@ always : (s : State) (k : ℕ) → eqb k 7 ≡ true → predicateAt s k ≡ true
 unfolding predicateAt
 always s k e = rw e refl
 
+-- no state lets a record run whose guard never holds
+pub never-holds : (i : Insn) (s : State) → neverRuns i ≡ true → guardHolds i s ≡ false
+unfolding neverRuns xor
+never-holds i s h = rw (always s (guard i) (and-left (eqb (guard i) 7) _ h), and-right (eqb (guard i) 7) _ h) refl
+
 module _ (cs : List ℕ) (s : State) where
   not-sem : (n t : Bool) → sem cs (logicalNotIf n) (Truth t ∷ []) s ≡ ran s (Truth (xor t n))
   unfolding logicalNotIf effectOf oneEffect negated withTruth valueAt xor
@@ -188,15 +193,15 @@ module _ (cs : List ℕ) (k : ℕ) (i : Insn) (s : State) where
       (after-open g (w .values) (guardHolds i s) (w .next) (omega (arith, w .next, next-bound (p (guard i) (guardNot i)) [] 0, guard-sized (guard i) (guardNot i) .bound)))
 
   pub strip-evaluated : evaluated wide (strip k i) s cs ≡ cond (guardHolds i s) (stripAnswer s (sem cs (armOf k i) [] s)) (ends Done s)
-  unfolding stripsFrom entriesOf guarded begun xor
-  strip-evaluated = evaluated-strips s cs wide (strip k i) (entriesOf k i ∷ []) (strip-decodes k i) (strip-shape k i) ∙ go (eqb (guard i) 7) (guardNot i) refl refl
+  unfolding stripsFrom entriesOf guarded neverRuns begun xor
+  strip-evaluated = evaluated-strips s cs wide (strip k i) (entriesOf k i ∷ []) (strip-decodes k i) (strip-shape k i) ∙ go (neverRuns i) (eqb (guard i) 7) refl refl
     where
-      go : (always off : Bool) → eqb (guard i) 7 ≡ always → guardNot i ≡ off
-          → restored s (onward (entriesFrom cs (mid s []) (cond always (cond off [] (build (armOf k i) [] 0 .entries)) (block (build (p (guard i) (guardNot i)) [] 0) (armOf k i)) ++ (Entry.Bare 255 ∷ []))) (λ u. ends Done u))
+      go : (dead seven : Bool) → neverRuns i ≡ dead → eqb (guard i) 7 ≡ seven
+          → restored s (onward (entriesFrom cs (mid s []) (cond dead [] (cond seven (build (armOf k i) [] 0 .entries) (block (build (p (guard i) (guardNot i)) [] 0) (armOf k i))) ++ (Entry.Bare 255 ∷ []))) (λ u. ends Done u))
           ≡ cond (guardHolds i s) (stripAnswer s (sem cs (armOf k i) [] s)) (ends Done s)
-      go true true a n = rw (n, always s (guard i) a, at-end cs s []) refl
-      go true false a n = rw (n, always s (guard i) a) (ended cs s [] (build (armOf k i) [] 0) (Entry.Bare 255 ∷ []) (λ u ws. at-end cs u ws) (sem cs (armOf k i) [] s) (arm-follows [] (omega arith)))
-      go false off a n =
+      go true seven d a = rw (never-holds i s d, at-end cs s []) refl
+      go false true d a = let n : guardNot i ≡ false = rw a at d in rw (n, always s (guard i) a) (ended cs s [] (build (armOf k i) [] 0) (Entry.Bare 255 ∷ []) (λ u ws. at-end cs u ws) (sem cs (armOf k i) [] s) (arm-follows [] (omega arith)))
+      go false false d a =
           let c = p (guard i) (guardNot i) in
           let f = follows cs c [] [] [] s (guard-sized (guard i) (guardNot i) .closed) tt (omega (arith, guard-sized (guard i) (guardNot i) .bound)) in
           guard-follows (subst (λ (r : Ran). Follows cs s [] (build c [] 0) r) (p-sem cs s (guard i) (guardNot i) (bits-lt i 16 3)) f)

@@ -7,6 +7,7 @@ pub mod InRange
 pub mod Arms
 pub mod Marked
 pub mod Decided
+pub mod Refusals
 pub mod Whole
 pub mod WellFormed
 pub mod Shape

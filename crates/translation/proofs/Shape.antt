@@ -1,11 +1,11 @@
 -- Every strip of a translation is well-formed (T5): it passes the shape test, and its bytes are the encoding of its entries.
 use mathlib.Core.Path.{_≡_, refl, sym, ap}
-use mathlib.Core.Bool.{Bool, true, false, cond, not, _&&_, false≢true}
+use mathlib.Core.Bool.{Bool, true, false, cond, false≢true}
 use mathlib.Core.List.{List, [], _∷_, _++_, append-nil}
-use mathlib.Core.Option.{some}
+use mathlib.Core.Option.{Option, none, some}
 use Prim.Native.Nat.{ℕ, _≤_}
 use native.Mathlib.Omega.{arith}
-use lib.Dec.{eqb, ltb, leb}
+use lib.Dec.{eqb, leb}
 use lib.ListN.{length, getD, take, drop, length-append, length-drop}
 use lib.Seq.{take-at}
 use borrow.Author.Tests.{leb-true}
@@ -18,11 +18,11 @@ use Rattle.translation.specs.Insn.{Insn}
 use Rattle.translation.specs.Code.{Code, build}
 use Rattle.translation.specs.Helpers.{p}
 use Rattle.translation.specs.Arms.{armOf}
-use Rattle.translation.specs.Strip.{Decision, guard, guardNot, block, guarded, entriesOf, strip, marked, insnOf, known, systemValueMov, byteThree, admits, refused, fitted, admitted, decision, lengthOf}
+use Rattle.translation.specs.Strip.{Decision, guard, guardNot, neverRuns, block, guarded, entriesOf, strip, marked, insnOf, firstRefusal, isNone, admits, refused, fitted, answered, decision, lengthOf}
 use Rattle.translation.specs.Turn.{isWritten}
-use Rattle.translation.specs.declared.answer.Outcome.the-variants.{Written, Refused}
+use Rattle.translation.specs.declared.answer.Outcome.the-variants.{Written}
 use Rattle.translation.specs.declared.answer.Refusal.{Refusal}
-use Rattle.translation.specs.declared.answer.Refusal.the-variants.{BadLength, UnknownKind, UnknownForm, SystemValueMov, ByteThree, NoRoom}
+use Rattle.translation.specs.declared.answer.Refusal.the-variants.{NoRoom}
 use Rattle.translation.proofs.Fits.{bounded}
 use Rattle.translation.proofs.Arms.{arm-sized, arm-range, guard-sized, guard-kind, guard-range}
 use Rattle.translation.proofs.Typed.{typed, made, no-refs, sound}
@@ -38,14 +38,14 @@ piece c before t r =
 -- T5: the strip of every kind and word is well-formed
 pub strip-well-formed : (k : ℕ) (i : Insn) → WellFormed (entriesOf k i)
 unfolding entriesOf guarded
-strip-well-formed k i = go (eqb (guard i) 7) (guardNot i)
+strip-well-formed k i = go (neverRuns i) (eqb (guard i) 7)
   where
-    go : (always not : Bool) → WellFormed (cond always (cond not [] (build (armOf k i) [] 0 .entries)) (block (build (p (guard i) (guardNot i)) [] 0) (armOf k i)) ++ (Entry.Bare 255 ∷ []))
-    go true true = plain [] (record { inside = refl; bodies = refl; numbers = refl; refs = no-refs [] }) (omega arith)
-    go true false =
+    go : (dead always : Bool) → WellFormed (cond dead [] (cond always (build (armOf k i) [] 0 .entries) (block (build (p (guard i) (guardNot i)) [] 0) (armOf k i))) ++ (Entry.Bare 255 ∷ []))
+    go true always = plain [] (record { inside = refl; bodies = refl; numbers = refl; refs = no-refs [] }) (omega arith)
+    go false true =
         plain (build (armOf k i) [] 0 .entries) (piece (armOf k i) [] (arm-sized k i .typed) (arm-range k i))
         (omega (arith, bounded (armOf k i) [] 0, arm-sized k i .bound))
-    go false not =
+    go false false =
         let c = p (guard i) (guardNot i) in
         let g = build c [] 0 in
         let s = sound c [] [] [] tt (guard-sized (guard i) (guardNot i) .typed) in
@@ -82,33 +82,28 @@ pub record Accepted (l m room : List ℕ) (n : ℕ) (r : Decision) : Type 0 wher
   pub out : r .out ≡ strip (getD l 0 0) (insnOf l) ++ drop n room
 
 pub accepted : (l m out : List ℕ) (n : ℕ) → decision l m out .outcome ≡ Written n → (admits l ≡ true) × Accepted l m out n (decision l m out)
-unfolding decision admitted fitted admits lengthOf
-accepted l m out n h =
-    go (eqb (length l) 18) (known k) (ltb 2 (insnOf l .form)) (systemValueMov k (insnOf l)) (byteThree k (insnOf l)) (leb (length s) (length out)) (leb-true (length s) (length out)) h
+unfolding decision fitted admits lengthOf
+accepted l m out n h = go (firstRefusal l) h
   where
-    k : ℕ
-    k = getD l 0 0
-
     s : List ℕ
     s = strip (getD l 0 0) (insnOf l)
 
     Case : Bool → Decision → Type 0
     Case b r = r .outcome ≡ Written n → (b ≡ true) × Accepted l m out n r
 
-    none : (b : Bool) (f : Refusal) → Case b (refused f m out)
-    none b f e = absurd (false≢true (ap isWritten e))
+    no : (b : Bool) (f : Refusal) → Case b (refused f m out)
+    no b f e = absurd (false≢true (ap isWritten e))
 
     full : Decision
-    full = record { outcome = Written (length s); marks = marked k (insnOf l) m; out = s ++ drop (length s) out }
+    full = record { outcome = Written (length s); marks = marked (getD l 0 0) (insnOf l) m; out = s ++ drop (length s) out }
 
-    go : (a b c d e f : Bool) → (f ≡ true → length s ≤ length out) → Case (a && (b && (not c && (not d && not e)))) (cond a (cond b (cond c (refused UnknownForm m out) (cond d (refused SystemValueMov m out) (cond e (refused ByteThree m out) (cond f full (refused NoRoom m out))))) (refused UnknownKind m out)) (refused BadLength m out))
-    go false b c d e f w = none false BadLength
-    go true false c d e f w = none false UnknownKind
-    go true true true d e f w = none false UnknownForm
-    go true true false true e f w = none false SystemValueMov
-    go true true false false true f w = none false ByteThree
-    go true true false false false false w = none true NoRoom
-    go true true false false false true w = λ x. let q : length s ≡ n = ap lengthOf x in (refl, record { size = sym q; fits = rw (← q) (w refl); marks = refl; out = ap (λ (j : ℕ). s ++ drop j out) q })
+    if-fits : (f : Bool) → (f ≡ true → length s ≤ length out) → Case true (cond f full (refused NoRoom m out))
+    if-fits true w = λ x. let q : length s ≡ n = ap lengthOf x in (refl, record { size = sym q; fits = rw (← q) (w refl); marks = refl; out = ap (λ (j : ℕ). s ++ drop j out) q })
+    if-fits false w = no true NoRoom
+
+    go : (a : Option Refusal) → Case (isNone a) (answered a (getD l 0 0) (insnOf l) m out)
+    go none = if-fits (leb (length s) (length out)) (leb-true (length s) (length out))
+    go (some r) = no false r
 
 -- the bytes of an accepted record are one strip that passes the shape test: that of its entries
 pub accepted-strip : (l m out : List ℕ) (n : ℕ) → decision l m out .outcome ≡ Written n → take n (decision l m out .out) ≡ strip (getD l 0 0) (insnOf l)
@@ -126,10 +121,6 @@ refused-fits : (r : Refusal) (m out : List ℕ) → Fitting out (refused r m out
 unfolding lengthOf
 refused-fits r m out = record { same = refl; within = omega arith }
 
-either-fits : (b : Bool) (x y : Decision) (out : List ℕ) → Fitting out x → Fitting out y → Fitting out (cond b x y)
-either-fits true x y out p q = p
-either-fits false x y out p q = q
-
 fitted-fits : (k : ℕ) (i : Insn) (m out : List ℕ) → Fitting out (fitted k i m out)
 unfolding fitted lengthOf
 fitted-fits k i m out = by (leb (length (strip k i)) (length out)) refl
@@ -139,12 +130,9 @@ fitted-fits k i m out = by (leb (length (strip k i)) (length out)) refl
     by false e = rw e (refused-fits NoRoom m out)
 
 pub fits : (l m out : List ℕ) → Fitting out (decision l m out)
-unfolding decision admitted
-fits l m out =
-    let k = getD l 0 0 in
-    let i = insnOf l in
-    let three = either-fits (byteThree k i) _ _ out (refused-fits ByteThree m out) (fitted-fits k i m out) in
-    let system = either-fits (systemValueMov k i) _ _ out (refused-fits SystemValueMov m out) three in
-    let form = either-fits (ltb 2 (i .form)) _ _ out (refused-fits UnknownForm m out) system in
-    let kind = either-fits (known k) _ _ out form (refused-fits UnknownKind m out) in
-    either-fits (eqb (length l) 18) _ _ out kind (refused-fits BadLength m out)
+unfolding decision
+fits l m out = go (firstRefusal l)
+  where
+    go : (a : Option Refusal) → Fitting out (answered a (getD l 0 0) (insnOf l) m out)
+    go none = fitted-fits (getD l 0 0) (insnOf l) m out
+    go (some r) = refused-fits r m out

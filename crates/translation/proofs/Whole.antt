@@ -1,8 +1,8 @@
 -- What the code writes for a record is its strip, and the mark that it raises gives its marks: nothing is ever cut off.
 use mathlib.Core.Path.{_≡_, refl, sym, ap, _∙_}
-use mathlib.Core.Bool.{Bool, true, false, cond, _&&_}
+use mathlib.Core.Bool.{Bool, true, false, cond}
 use mathlib.Core.List.{List, [], _∷_, _++_, append-assoc, append-nil}
-use Prim.Native.Nat.{ℕ, suc, _+_, _*_, _%_, _≤_, _<_}
+use Prim.Native.Nat.{ℕ, suc, _+_, _*_, _≤_, _<_}
 use native.Mathlib.Omega.{arith}
 use lib.Dec.{eqb}
 use lib.ListN.{length, set as replace, getD, drop, length-append}
@@ -13,13 +13,13 @@ use Rattle.strip.specs.declared.reader.Entry.the-variants as Entry
 use Rattle.strip.specs.Entry.{kindOf, refsOf, wide, immediateOf, encode}
 use Rattle.strip.specs.Shape.{stripBytes}
 use Rattle.strip.proofs.Write.{sets-append}
-use Rattle.translation.specs.Insn.{Insn, bits, bit}
-use Rattle.translation.specs.Code.{Code, Built, build}
+use Rattle.translation.specs.Insn.{Insn}
+use Rattle.translation.specs.Code.{Built, build}
 use Rattle.translation.specs.Helpers.{p}
 use Rattle.translation.specs.Arms.{armOf}
 use Rattle.translation.specs.Marks.{raise, uses}
 use Rattle.translation.specs.Emit.{Buffer, Value, wrote, emits, view}
-use Rattle.translation.specs.Strip.{Decision, guard, guardNot, block, guarded, entriesOf, strip, marked, refused, fitted}
+use Rattle.translation.specs.Strip.{guard, guardNot, neverRuns, block, guarded, entriesOf, strip, marked, refused, fitted}
 use Rattle.translation.specs.Whole.{writes}
 use Rattle.translation.specs.declared.writer.Pos.{Pos}
 use Rattle.translation.specs.declared.answer.Outcome.the-variants.{Written}
@@ -174,16 +174,17 @@ module _ (k : ℕ) (i : Insn) (l : List ℕ) where
 
   pub whole : Holding l (writes k i (start l)) (strip k i) (marked k i)
   unfolding writes strip entriesOf marked guarded g arm
-  whole = go (eqb (guard i) 7) (guardNot i)
+  whole = go (neverRuns i) (eqb (guard i) 7)
     where
-      go : (x n : Bool) → Holding l
-          (cond x (cond n (wrote (Entry.Bare 255) (start l)) (wrote (Entry.Bare 255) (emits (armOf k i) [] (start l) .buffer)))
-          (wrote (Entry.Bare 255) (wrote (Entry.Bare 101) (emits (armOf k i) [] (wrote (Entry.One 100 (emits (p (guard i) (guardNot i)) [] (start l) .number)) (emits (p (guard i) (guardNot i)) [] (start l) .buffer)) .buffer))))
-          (stripBytes wide (cond x (cond n [] (build (armOf k i) [] 0 .entries)) (block (build (p (guard i) (guardNot i)) [] 0) (armOf k i)) ++ (Entry.Bare 255 ∷ [])))
-          (λ m. cond (x && n) m (uses (armOf k i) m))
-      go true true = rw end-bytes never
-      go true false = rw (last-bytes (build (armOf k i) [] 0 .entries) (Entry.Bare 255)) plain
-      go false n = rw block-bytes inBlock
+      go : (dead always : Bool) → Holding l
+          (cond dead (wrote (Entry.Bare 255) (start l))
+          (cond always (wrote (Entry.Bare 255) (emits (armOf k i) [] (start l) .buffer))
+          (wrote (Entry.Bare 255) (wrote (Entry.Bare 101) (emits (armOf k i) [] (wrote (Entry.One 100 (emits (p (guard i) (guardNot i)) [] (start l) .number)) (emits (p (guard i) (guardNot i)) [] (start l) .buffer)) .buffer)))))
+          (stripBytes wide (cond dead [] (cond always (build (armOf k i) [] 0 .entries) (block (build (p (guard i) (guardNot i)) [] 0) (armOf k i))) ++ (Entry.Bare 255 ∷ [])))
+          (λ m. cond dead m (uses (armOf k i) m))
+      go true always = rw end-bytes never
+      go false true = rw (last-bytes (build (armOf k i) [] 0 .entries) (Entry.Bare 255)) plain
+      go false false = rw block-bytes inBlock
 
 -- ---- the room
 

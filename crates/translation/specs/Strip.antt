@@ -1,6 +1,7 @@
 -- From a record to its strip and its answer (01, 'Record', 'Strip' and 'Who can cause a refusal'): this is the definition of the translation.
-use mathlib.Core.Bool.{Bool, true, false, cond, not, _&&_}
+use mathlib.Core.Bool.{Bool, true, false, cond, _&&_}
 use mathlib.Core.List.{List, [], _∷_, _++_}
+use mathlib.Core.Option.{Option, none, some}
 use Prim.Native.Nat.{ℕ, _+_, _*_}
 use lib.Dec.{eqb, ltb, leb}
 use lib.ListN.{length, getD, drop}
@@ -44,12 +45,17 @@ guard i = bits i 16 3
 abbrev pub guardNot : Insn → Bool
 guardNot i = bit i 19
 
--- `guarded` around a body: nothing of a guard that always holds, nothing at all where it never does, else a block
+-- it never holds: predicate 7, which reads true, negated
+unfoldable pub neverRuns : Insn → Bool
+neverRuns i = eqb (guard i) 7 && guardNot i
+
+-- a block: what makes the guard's truth, an open on it, the body, a close
 abbrev pub block : Built → Code → List Entry
 block g c = g .entries ++ (Entry.One 100 (g .result) ∷ (build c [] (g .next) .entries ++ (Entry.Bare 101 ∷ [])))
 
+-- `guarded` around a body: nothing where the guard never holds, the body alone where it always does, else a block
 unfoldable pub guarded : Insn → Code → List Entry
-guarded i c = cond (eqb (guard i) 7) (cond (guardNot i) [] (build c [] 0 .entries)) (block (build (p (guard i) (guardNot i)) [] 0) c)
+guarded i c = cond (neverRuns i) [] (cond (eqb (guard i) 7) (build c [] 0 .entries) (block (build (p (guard i) (guardNot i)) [] 0) c))
 
 -- the entries of kind k's strip, and its bytes in the wide layout
 unfoldable pub entriesOf : ℕ → Insn → List Entry
@@ -60,7 +66,7 @@ strip k i = stripBytes wide (entriesOf k i)
 
 -- the marks after it: a guard that never holds raises none
 unfoldable pub marked : ℕ → Insn → List ℕ → List ℕ
-marked k i m = cond (eqb (guard i) 7 && guardNot i) m (uses (armOf k i) m)
+marked k i m = cond (neverRuns i) m (uses (armOf k i) m)
 
 -- ---- the record: 18 bytes, little-endian
 
@@ -72,6 +78,8 @@ wordAt64 l n = wordAt32 l n + wordAt32 l (n + 4) * 4294967296
 
 abbrev pub insnOf : List ℕ → Insn
 insnOf l = record { form = getD l 1 0; value = wordAt64 l 2; word = wordAt64 l 10 }
+
+-- ---- what is admitted
 
 -- the kinds of 01
 unfoldable pub known : ℕ → Bool
@@ -85,11 +93,27 @@ systemValueMov k i = eqb k 1 && eqb (i .value) 17350117564444835840
 unfoldable pub byteThree : ℕ → Insn → Bool
 byteThree k i = eqb k 24 && (eqb (bits i 10 2) 1 && eqb (bits i 41 2) 3)
 
--- 01 admits the record: none of the refusals 1 to 5 holds
+-- the first refusal of 2 to 5 that holds; a word that never runs needs no support, so 4 and 5 hold only under a guard that may run (#104)
+unfoldable pub firstRefusalOf : ℕ → Insn → Option Refusal
+firstRefusalOf k i =
+    cond (known k)
+    (cond (ltb 2 (i .form)) (some UnknownForm)
+    (cond (neverRuns i) none
+    (cond (systemValueMov k i) (some SystemValueMov)
+    (cond (byteThree k i) (some ByteThree) none))))
+    (some UnknownKind)
+
+-- and of 1 to 5, of a record's bytes
+unfoldable pub firstRefusal : List ℕ → Option Refusal
+firstRefusal l = cond (eqb (length l) 18) (firstRefusalOf (getD l 0 0) (insnOf l)) (some BadLength)
+
+abbrev pub isNone : Option Refusal → Bool
+isNone none = true
+isNone (some r) = false
+
+-- 01 admits the record: none of these refusals holds
 unfoldable pub admits : List ℕ → Bool
-admits l =
-    eqb (length l) 18
-    && (known (getD l 0 0) && (not (ltb 2 (insnOf l .form)) && (not (systemValueMov (getD l 0 0) (insnOf l)) && not (byteThree (getD l 0 0) (insnOf l)))))
+admits l = isNone (firstRefusal l)
 
 -- ---- what is decided: the strip's length or a refusal, the marks, the room
 
@@ -107,17 +131,13 @@ fitted k i m out =
     (record { outcome = Written (length (strip k i)); marks = marked k i m; out = strip k i ++ drop (length (strip k i)) out })
     (refused NoRoom m out)
 
--- the first refusal that holds
-unfoldable pub admitted : ℕ → Insn → List ℕ → List ℕ → Decision
-admitted k i m out =
-    cond (known k)
-    (cond (ltb 2 (i .form)) (refused UnknownForm m out)
-    (cond (systemValueMov k i) (refused SystemValueMov m out)
-    (cond (byteThree k i) (refused ByteThree m out) (fitted k i m out))))
-    (refused UnknownKind m out)
+-- an admitted record is translated if its strip fits
+abbrev pub answered : Option Refusal → ℕ → Insn → List ℕ → List ℕ → Decision
+answered none k i m out = fitted k i m out
+answered (some r) k i m out = refused r m out
 
 unfoldable pub decision : List ℕ → List ℕ → List ℕ → Decision
-decision l m out = cond (eqb (length l) 18) (admitted (getD l 0 0) (insnOf l) m out) (refused BadLength m out)
+decision l m out = answered (firstRefusal l) (getD l 0 0) (insnOf l) m out
 
 -- ---- the answer: 01's number, 0 where the record is accepted; the strip's length, 0 of a refusal; the marks, the room
 

@@ -7,8 +7,8 @@ ghost use lib.Seq.{paste};
 ghost use Rattle.translation.specs.Arms.{armOf};
 ghost use Rattle.translation.specs.Emit.{view, viewMade, Does};
 ghost use Rattle.translation.specs.Marks.{raise};
-ghost use Rattle.translation.specs.Strip.{guard, refusalNumber, known, systemValueMov, byteThree, wordAt32, wordAt64, fitted, admitted, answerOf, translation};
-ghost use Rattle.translation.specs.Whole.{writes, decisionOf};
+ghost use Rattle.translation.specs.Strip.{guard, neverRuns, refusalNumber, known, systemValueMov, byteThree, wordAt32, wordAt64, firstRefusalOf, fitted, answered, answerOf, translation};
+ghost use Rattle.translation.specs.Whole.{writes, refusalIn, decisionOf};
 use crate::arm::bfe;
 use crate::arm::bfi;
 use crate::arm::csetp;
@@ -47,7 +47,7 @@ use crate::writer::Pos;
 use crate::writer::bare;
 use crate::writer::open;
 
-// Why a record is refused. 01's numbers: 1 to 6 in this order.
+// Why a record is refused. 01's numbers: 1 to 6 in this order; 4 and 5 only under a guard that may run.
 pub enum Refusal {
     // The record is not 18 bytes.
     BadLength,
@@ -133,21 +133,26 @@ fn guard(i: Insn) -> u8
     bits(i, 16, 3) as u8
 }
 
+// The guard never holds: predicate 7, which reads true, negated.
+fn never_runs(i: Insn) -> bool
+    ensures { λ r. ⌜ r ≡ neverRuns i ⌝ }
+{
+    both(guard(i) == 7, bit(i, 19))
+}
+
 // The whole strip: guarded, and the end.
 fn guarded(buf: &mut [u8; 264], at: Pos, kind: u8, i: Insn) -> Pos
     ensures { λ r. ⌜ view (now (buf .exit)) r ≡ writes kind i (view (now (buf .entry)) at) ⌝ }
 {
+    if never_runs(i) {
+        return bare(buf, at, 255);
+    }
     let g = guard(i);
-    let not = bit(i, 19);
     if g == 7 {
-        if not {
-            bare(buf, at, 255)
-        } else {
-            let m = op(buf, at, kind, i);
-            bare(buf, m.pos, 255)
-        }
+        let m = op(buf, at, kind, i);
+        bare(buf, m.pos, 255)
     } else {
-        let c = p(buf, at, g, not);
+        let c = p(buf, at, g, bit(i, 19));
         let q = open(buf, c.pos, c.value);
         let m = op(buf, q, kind, i);
         let q = bare(buf, m.pos, 101);
@@ -240,23 +245,42 @@ fn refused(why: Refusal, marks: [u32; 32]) -> Translated
     }
 }
 
-// What 01 admits, in its order of refusals.
-fn admit(kind: u8, i: Insn, marks: [u32; 32], out: &mut [u8]) -> Translated
-    ensures { λ r. ⌜ decisionOf r (now (out .exit)) ≡ admitted kind i marks (now (out .entry)) ⌝ }
+// Whether 01 admits a record, or why not.
+enum Admission {
+    Admitted,
+    Denied(Refusal),
+}
+
+// The first refusal of 2 to 5 that holds. A word that never runs needs no support.
+fn first_refusal(kind: u8, i: Insn) -> Admission
+    ensures { λ r. ⌜ refusalIn r ≡ firstRefusalOf kind i ⌝ }
 {
     if !known(kind) {
-        return refused(Refusal::UnknownKind, marks);
+        return Admission::Denied(Refusal::UnknownKind);
     }
     if 2 < i.form {
-        return refused(Refusal::UnknownForm, marks);
+        return Admission::Denied(Refusal::UnknownForm);
+    }
+    if never_runs(i) {
+        return Admission::Admitted;
     }
     if system_value_mov(kind, i) {
-        return refused(Refusal::SystemValueMov, marks);
+        return Admission::Denied(Refusal::SystemValueMov);
     }
     if byte_three(kind, i) {
-        return refused(Refusal::ByteThree, marks);
+        return Admission::Denied(Refusal::ByteThree);
     }
-    finish(kind, i, marks, out)
+    Admission::Admitted
+}
+
+// The strip of what is admitted, else the refusal.
+fn admit(kind: u8, i: Insn, marks: [u32; 32], out: &mut [u8]) -> Translated
+    ensures { λ r. ⌜ decisionOf r (now (out .exit)) ≡ answered (firstRefusalOf kind i) kind i marks (now (out .entry)) ⌝ }
+{
+    match first_refusal(kind, i) {
+        Admission::Admitted => finish(kind, i, marks, out),
+        Admission::Denied(why) => refused(why, marks),
+    }
 }
 
 fn wide(x: u8) -> u64

@@ -4,6 +4,7 @@ mod answers;
 mod bench;
 mod convert_bench;
 mod convert_diff;
+mod dead;
 mod evaluate_bench;
 mod evaluate_diff;
 mod ffi;
@@ -40,13 +41,13 @@ Usage:
       constants. Compares the number and the whole state, which a refusal must leave as it was. Prints the answers for
       each class and each difference. Some ten thousand runs are needed for every class to have its answers.
   harness translate-diff COUNT SEED
-      Translates COUNT random records (random bytes, known kinds, admitted ones, near misses of the refusals 4 and 5)
-      with both, into rooms that are exactly long enough, longer, shorter or empty, and carries the use marks along.
-      Compares the number, the length, the marks and every byte of the room. Some hundred thousand records are needed
-      for every class to have its answers.
+      Translates COUNT random records (random bytes, known kinds, admitted ones, near misses of the refusals 4 and 5,
+      dead words) with both, into rooms that are exactly long enough, longer, shorter or empty, and carries the use
+      marks along. Compares the number, the length, the marks and every byte of the room. Some hundred thousand records
+      are needed for every class to have its answers.
   harness translate-bits STEP SEED
       The same for every kind, form and telling opcode value with every STEPth setting of the bits 39 to 56 (1: all
-      262,144), the other bits random. One thread for each processor.
+      262,144), the other bits random. Steps up to some thousand see every answer. One thread for each processor.
   harness meaning-diff COUNT SEED
       Translates random admitted records of every kind and form, evaluates their strips, alone and several as one run,
       and compares number and state with the meanings of 01 in plain Rust. COUNT is the number of records. Some hundred

@@ -8,7 +8,7 @@ use oracle::format::Layout;
 use oracle::generate::{TELLING_VALUES, random_admitted, with_field};
 use oracle::meaning::{State, element_named, element_read, guard_holds, lacking_word, meaning};
 use oracle::print::hex;
-use oracle::record::{NAMES, Record};
+use oracle::record::{I2I, MOV, NAMES, Record};
 use oracle::rng::Rng;
 use oracle::starts::ALL_WORDS;
 
@@ -238,6 +238,8 @@ struct Seen {
     read: [u64; 2],
     /// Guard does not hold, and the constant that would be read is not lent.
     spared: u64,
+    /// Dead words that are refused under any other guard, with the constant that they name lent, not lent.
+    dead: [u64; 2],
     /// Answers that leave the state as it was although the guard holds, and answers that change it.
     changed: [u64; 2],
 }
@@ -253,6 +255,7 @@ impl Seen {
         add(&mut self.values, &other.values);
         add(&mut self.read, &other.read);
         add(&mut self.changed, &other.changed);
+        add(&mut self.dead, &other.dead);
         self.spared += other.spared;
     }
 
@@ -265,9 +268,8 @@ impl Seen {
             }
         }
         for (value, times) in TELLING_VALUES.iter().zip(self.values) {
-            let refused = Record { kind, form, value: *value, word: 0 }.admit().is_err();
-            if (times == 0) != refused {
-                complaint += &format!("  <- {times} of value {value:#x}");
+            if times == 0 {
+                complaint += &format!("  <- none of value {value:#x}");
             }
         }
         // mov32i, csetp, psetp, pset, iadd32i, lop32i, vmnmx, r2p and p2r read none; lea may in any form.
@@ -275,6 +277,11 @@ impl Seen {
         for (what, times) in [("lent", self.read[0]), ("not lent", self.read[1]), ("spared", self.spared)] {
             if (times > 0) != reads {
                 complaint += &format!("  <- {times} constants {what}");
+            }
+        }
+        for (what, times) in [("lent", self.dead[0]), ("not lent", self.dead[1])] {
+            if (times > 0) != matches!(kind, MOV | I2I) {
+                complaint += &format!("  <- {times} dead words, their constant {what}");
             }
         }
         for (what, times) in [("as it was", self.changed[0]), ("changed", self.changed[1])] {
@@ -317,6 +324,10 @@ impl Tally {
         seen.guards[guard as usize] += 1;
         if let Some(at) = TELLING_VALUES.iter().position(|value| *value == record.value) {
             seen.values[at] += 1;
+        }
+        // These are admitted as dead words alone.
+        if record.is_system_value_mov() || record.is_half_at_byte_3() {
+            seen.dead[usize::from(element_named(record) >= constants.len())] += 1;
         }
         if let Some(element) = element_read(record) {
             let lent = element < constants.len();
@@ -459,7 +470,8 @@ fn run_job(job: u64, pairs: u64, seed: u64, words: &mut [u32], shown: &AtomicU64
 }
 
 /// Compares on `count` pairs of a record and a state. True if there is no difference and every kind and form was seen
-/// under every guard, with every telling value and with what it can do with a constant.
+/// under every guard, with every telling value and with what it can do with a constant, and dead words in place of the
+/// refusals 4 and 5.
 pub fn run(count: u64, seed: u64) -> bool {
     let jobs = count.div_ceil(JOB_PAIRS);
     let next = AtomicUsize::new(0);
@@ -491,7 +503,7 @@ pub fn run(count: u64, seed: u64) -> bool {
 fn report(tally: &Tally) -> bool {
     print!("{:<10} {:>11}", "", "pairs");
     GUARDS.iter().for_each(|(name, _)| print!(" {name:>11}"));
-    println!(" {:>11} {:>11} {:>11} {:>11}", "lent", "9", "spared", "changed");
+    println!(" {:>11} {:>11} {:>11} {:>11} {:>11}", "lent", "9", "spared", "changed", "dead");
     let mut fine = tally.different == 0;
     let mut all = Seen::default();
     for (at, name) in NAMES.iter().enumerate() {
@@ -522,5 +534,7 @@ fn report(tally: &Tally) -> bool {
 fn print_row(name: &str, seen: &Seen, complaint: &str) {
     print!("{name:<10} {:>11}", seen.pairs());
     seen.guards.iter().for_each(|times| print!(" {times:>11}"));
-    println!(" {:>11} {:>11} {:>11} {:>11}{complaint}", seen.read[0], seen.read[1], seen.spared, seen.changed[1]);
+    let Seen { read, spared, changed, dead, .. } = seen;
+    let dead: u64 = dead.iter().sum();
+    println!(" {:>11} {:>11} {spared:>11} {:>11} {dead:>11}{complaint}", read[0], read[1], changed[1]);
 }

@@ -8,6 +8,7 @@ use oracle::generate::{TELLING_VALUES, with_field};
 use oracle::record::{I2I, MOV, NAMES, Record};
 use oracle::rng::Rng;
 
+use crate::dead::Dead;
 use crate::pair::{Pair, ROOM};
 
 /// The mode bits: 39 to 56.
@@ -32,6 +33,7 @@ struct Tally {
     records: u64,
     /// By number, 0 for accepted.
     answers: [u64; 7],
+    dead: Dead,
     different: u64,
 }
 
@@ -39,12 +41,14 @@ impl Tally {
     fn add(&mut self, other: &Tally) {
         self.records += other.records;
         self.different += other.different;
+        self.dead.add(&other.dead);
         for (to, from) in self.answers.iter_mut().zip(other.answers) {
             *to += from;
         }
     }
 
-    /// Whether a kind has the answers that it ought to have: 4 for mov and 5 for i2i, else only accepted records.
+    /// Whether a kind has the answers that it ought to have: 4 for mov and 5 for i2i, under guards that may run, else only
+    /// accepted records.
     fn right(&self, kind: u8) -> bool {
         let refused = |number: usize, of: u8| (self.answers[number] > 0) == (kind == of);
         let others = [1, 2, 3, 6].iter().all(|&number| self.answers[number] == 0);
@@ -87,6 +91,9 @@ fn run_job(job: usize, step: u64, seed: u64) -> Tally {
         let (number, difference) = pair.translate(&record.to_bytes(), ROOM);
         tally.records += 1;
         tally.answers[number as usize] += 1;
+        if number == 0 {
+            tally.dead.count(&record);
+        }
         if let Some(difference) = difference {
             tally.different += 1;
             if tally.different <= SHOWN {
@@ -98,8 +105,8 @@ fn run_job(job: usize, step: u64, seed: u64) -> Tally {
     tally
 }
 
-/// Compares on every `step`th setting, from a random one on. True if there is no difference and every kind has the
-/// answers that it ought to have. `None` if the step is 0 or passes the settings.
+/// Compares on every `step`th setting, from a random one on. True if there is no difference, every kind has the answers
+/// that it ought to have, and dead words of every sort were accepted. `None` if the step is 0 or passes the settings.
 pub fn run(step: u64, seed: u64) -> Option<bool> {
     if !(1..=SETTINGS).contains(&step) {
         return None;
@@ -135,6 +142,7 @@ pub fn run(step: u64, seed: u64) -> Option<bool> {
         fine &= right;
     }
     print_row("all", &all, "");
+    fine &= all.dead.report();
     let share = if step == 1 { "every setting".to_owned() } else { format!("one setting in {step}") };
     println!("{JOBS} of kind, form and value, {share} of bits 39 to 56");
     println!("{}", if fine { "no difference" } else { "FAILED" });
@@ -142,7 +150,7 @@ pub fn run(step: u64, seed: u64) -> Option<bool> {
 }
 
 fn print_row(name: &str, tally: &Tally, complaint: &str) {
-    let Tally { records, answers, different } = tally;
+    let Tally { records, answers, different, .. } = tally;
     let (accepted, lane, byte) = (answers[0], answers[4], answers[5]);
     println!("{name:<12} {records:>12} {accepted:>12} {lane:>10} {byte:>10} {different:>10}{complaint}");
 }

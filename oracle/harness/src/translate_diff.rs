@@ -1,10 +1,11 @@
 //! The differential test of translation: the same records, marks and rooms through the oracle and through the library.
 
-use oracle::generate::{random_admitted, random_record, with_field};
+use oracle::generate::{dead_word, random_admitted, random_record, with_field};
 use oracle::record::{I2I, MOV, MOV_SYSTEM_VALUE, NAMES, RECORD_LEN, Record};
 use oracle::rng::Rng;
 
 use crate::answers::complaint;
+use crate::dead::Dead;
 use crate::pair::{Pair, ROOM};
 use crate::rooms::{Room, Rooms};
 
@@ -28,13 +29,14 @@ struct Class {
     make: fn(&mut Rng) -> Vec<u8>,
 }
 
-const CLASSES: [Class; 7] = [
+const CLASSES: [Class; 8] = [
     Class { name: "random bytes", must: &[0, 1, 2, 3, 6], may: &[4, 5], wrong_marks: false, make: bytes },
     Class { name: "known kind", must: &[0, 3, 4, 5, 6], may: &[], wrong_marks: false, make: known_kind },
     Class { name: "random record", must: &[0, 2, 3, 4, 5, 6], may: &[], wrong_marks: false, make: any },
     Class { name: "admitted", must: &[0, 6], may: &[], wrong_marks: false, make: admitted },
     Class { name: "near refusal 4", must: &[0, 2, 3, 4, 6], may: &[], wrong_marks: false, make: near_system_value_mov },
     Class { name: "near refusal 5", must: &[0, 2, 3, 5, 6], may: &[], wrong_marks: false, make: near_byte_three },
+    Class { name: "dead word", must: &[0, 2, 3, 6], may: &[], wrong_marks: false, make: dead },
     Class { name: "marks too long or short", must: &[1], may: &[], wrong_marks: true, make: any },
 ];
 
@@ -100,6 +102,18 @@ fn near_byte_three(rng: &mut Rng) -> Vec<u8> {
     near(rng, record, I2I)
 }
 
+/// A record under the guard that never runs: mov of a system value, i2i of a half from byte 3 on, or any other kind. At
+/// times its kind or form is none.
+fn dead(rng: &mut Rng) -> Vec<u8> {
+    let mut record = dead_word(rng);
+    match rng.below(16) {
+        0 => record.kind = rng.pick(&[0, 31, 255]),
+        1 => record.form = rng.pick(&[3, 4, 255]),
+        _ => {}
+    }
+    record.to_bytes().to_vec()
+}
+
 /// Counts of one class.
 #[derive(Default)]
 struct Tally {
@@ -120,14 +134,15 @@ impl Tally {
     }
 }
 
-/// Compares on `count` random records, shared out among the classes. True if there is no difference and every class and
-/// room has the answers that it ought to have.
+/// Compares on `count` random records, shared out among the classes. True if there is no difference, every class and room
+/// has the answers that it ought to have, and dead words of every sort were accepted.
 pub fn run(count: u64, seed: u64) -> bool {
     let mut rng = Rng::new(seed);
     let mut pair = Pair::new(&mut rng);
     let mut shown = 0;
     let mut tallies: [Tally; CLASSES.len()] = Default::default();
     let mut rooms = Rooms::default();
+    let mut dead = Dead::default();
     for index in 0..count {
         let at = (index % CLASSES.len() as u64) as usize;
         let class = &CLASSES[at];
@@ -144,6 +159,9 @@ pub fn run(count: u64, seed: u64) -> bool {
         };
         tallies[at].answers[number as usize] += 1;
         rooms.count(room, number);
+        if let (0, Some(record)) = (number, Record::parse(&record)) {
+            dead.count(&record);
+        }
         if let Some(difference) = difference {
             tallies[at].different += 1;
             shown += 1;
@@ -166,6 +184,7 @@ pub fn run(count: u64, seed: u64) -> bool {
         fine &= tally.report(class);
     }
     fine &= rooms.report();
+    fine &= dead.report();
     println!("{}", if fine { "no difference" } else { "FAILED" });
     fine
 }

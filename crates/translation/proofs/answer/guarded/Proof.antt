@@ -11,6 +11,7 @@ guarded-spec =
     (tie.spec
     (λ c κs. search needs)
     (λ c κs. search needs)
+    (λ c. rw (← c .before .before .before .never-runs .ensures, c .before .before .if1 .taken) (c .bare .ensures .is))
     (λ c κs. search needs)
     (λ c κs. search needs)
     (λ c κs. search needs)
@@ -19,6 +20,6 @@ guarded-spec =
     (λ c κs. search needs)
     (λ c κs. search needs)
     (λ c κs. search needs)
-    (λ c. rw (← c .before .before .before .before .before .guard .ensures, ← c .before .before .before .before .bit .ensures, eq-eqb _ _ (c .before .before .before .if1 .taken), c .before .before .if2 .taken) (c .bare .ensures .is))
-    (λ c. rw (← c .before .before .before .before .before .before .before .guard .ensures, ← c .before .before .before .before .before .before .bit .ensures, eq-eqb _ _ (c .before .before .before .before .before .if1 .taken), c .before .before .before .before .if2 .left, ← c .before .before .op .ensures .is) (c .bare2 .ensures .is))
-    (λ c. rw (← c .before .before .before .before .before .before .before .before .before .before .before .before .guard .ensures, ← c .before .before .before .before .before .before .before .before .before .before .before .bit .ensures, ne-eqb _ _ (c .before .before .before .before .before .before .before .before .before .before .if1 .left), ← c .before .before .before .before .before .before .before .before .p .ensures .is, ← c .before .before .before .before .before .before .open .ensures .is, ← c .before .before .before .before .op2 .ensures .is, ← c .before .before .bare3 .ensures .is) (c .bare4 .ensures .is)))
+    (λ c κs. search needs)
+    (λ c. rw (← c .before .before .before .before .before .before .before .never-runs .ensures, c .before .before .before .before .before .before .if1 .left, ← c .before .before .before .before .before .guard .ensures, eq-eqb _ _ (c .before .before .before .before .if2 .taken), ← c .before .before .op .ensures .is) (c .bare2 .ensures .is))
+    (λ c. rw (← c .before .before .before .before .before .before .before .before .before .before .before .before .before .before .never-runs .ensures, c .before .before .before .before .before .before .before .before .before .before .before .before .before .if1 .left, ← c .before .before .before .before .before .before .before .before .before .before .before .before .guard .ensures, ne-eqb _ _ (c .before .before .before .before .before .before .before .before .before .before .before .if2 .left), ← c .before .before .before .before .before .before .before .before .before .bit .ensures, ← c .before .before .before .before .before .before .before .before .p .ensures .is, ← c .before .before .before .before .before .before .open .ensures .is, ← c .before .before .before .before .op2 .ensures .is, ← c .before .before .bare3 .ensures .is) (c .bare4 .ensures .is)))

@@ -1,12 +1,12 @@
 use mathlib.Core.Path.{ap}
 use borrow.Author.Tests.{eq-eqb, ne-eqb}
-use Rattle.translation.specs.Strip.{decision, answerOf, translation}
+use Rattle.translation.specs.Strip.{firstRefusal, decision, answerOf, translation}
 use borrow.Author.Needs.{needs}
 use Rattle.translation.proofs.answer.translate.Statement.{statement}
 use Rattle.translation.proofs.answer.translate.Tie as tie
 
 pub translate-spec : {M : Type 1} → statement M
-unfolding translation decision
+unfolding translation decision firstRefusal
 translate-spec =
     tie.close
     (tie.spec
