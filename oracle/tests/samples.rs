@@ -155,10 +155,11 @@ fn the_checker_is_given_the_run_of_all_samples() {
 }
 
 #[test]
-fn the_readme_shows_the_strips_of_both_works() {
+fn the_readme_shows_what_is_printed_of_both_works_and_the_padding() {
     let readme = include_str!("../../README.md");
-    for line in printed(&bytes(&count())).lines().chain(printed(&bytes(&conditions())).lines()) {
-        assert!(readme.contains(&format!("\n    {line}\n")), "{line}");
+    for records in [count(), conditions(), padding()] {
+        let shown: String = printed(&bytes(&records)).lines().map(|line| format!("    {line}\n")).collect();
+        assert!(readme.contains(&format!("\n\n{shown}\n")), "{shown}");
     }
 }
 

@@ -497,6 +497,7 @@ mayRead k = not (eqb k 2 || (eqb k 4 || (eqb k 7 || (eqb k 8 || (eqb k 10 || (eq
 abbrev pub leaReads : Record → Bool
 leaReads i = leaConstant i || (not (leaReg i) && eqb (i .form) 1)
 
+-- where the record runs it reads a constant
 unfoldable pub readsWhenRun : Record → Bool
 readsWhenRun i = cond (eqb (i .kind) 30) (leaReads i) (eqb (i .form) 1 && mayRead (i .kind))
 
