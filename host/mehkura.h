@@ -1,4 +1,4 @@
-/* Mehkura for C and C++: translation of a record; shape test, reach, evaluation and conversion of a run.
+/* Mehkura for C and C++: translation of a record; shape test, reach, evaluation and conversion of a run; SPIR-V words of a strip.
  *
  * host/build proves the library and makes target/mehkura with lib/libmehkura.a, which has every function below, and this header. Lists go as a pointer
  * and a length. No pointer may be null, for a list of length 0 either, and lists that one call gets must not overlap. No function keeps a pointer,
@@ -23,7 +23,10 @@ enum mehkura_answer {
     MEHKURA_NO_ROOM = 6,         /* the strip, or the converted run, is longer than the room */
     MEHKURA_BAD_SHAPE = 7,       /* the run is not well-formed in its layout, or a list of cells or of a state has another length */
     MEHKURA_UNDEFINED_VALUE = 8, /* an undefined value reaches a store, an open or an address */
-    MEHKURA_NO_CONSTANT = 9      /* no constant is lent at an address */
+    MEHKURA_NO_CONSTANT = 9,     /* no constant is lent at an address */
+    MEHKURA_BAD_IDS = 10,        /* the table has another length, names 0, an id twice or one at or above the bound, or an id is above MEHKURA_MAX_ID */
+    MEHKURA_NO_WORD_ROOM = 11,   /* the words are more than the room holds */
+    MEHKURA_UNWRITABLE = 17      /* words of two signs selected or inserted, a signed one stored, or an address's zero is not the constant 0 by its id */
 };
 
 /* Lengths of lists: a record, room for any strip, the use marks (32 words, little-endian), a state, cells. */
@@ -37,6 +40,23 @@ enum {
     MEHKURA_CELLS = 298  /* the registers, then predicates, flags and 32 constant slots from these places on: */
 };
 enum { MEHKURA_CELL_PREDICATE = 255, MEHKURA_CELL_FLAG = 262, MEHKURA_CELL_SLOT = 266 };
+
+/* The table of ids for SPIR-V words, by place: the types of unsigned and signed 32-bit words and of truths, the type of a pointer to an unsigned word
+ * of a slot, the import of GLSL.std.450, then the variables: 255 registers, 7 predicates, 4 flags and 32 constant slots. */
+enum {
+    MEHKURA_ID_UNSIGNED = 0,
+    MEHKURA_ID_SIGNED = 1,
+    MEHKURA_ID_TRUTH = 2,
+    MEHKURA_ID_POINTER = 3,
+    MEHKURA_ID_GLSL = 4,
+    MEHKURA_ID_REGISTER = 5,
+    MEHKURA_ID_PREDICATE = 260,
+    MEHKURA_ID_FLAG = 267,
+    MEHKURA_ID_SLOT = 271,
+    MEHKURA_TABLE = 303,         /* its length */
+    MEHKURA_MAX_ID = 4194302,    /* the highest id that may be lent or made */
+    MEHKURA_ANY_WORDS = 448      /* room for the words of any strip: 64 entries, seven words each */
+};
 
 /* How many bytes a reference to a value takes in a run. The caller says which, it is never guessed: the same bytes may be a run in both layouts and
  * mean two things. In a layout of another number no run is well-formed, the empty one neither. */
@@ -97,6 +117,15 @@ uint32_t mehkura_evaluate(const uint8_t *run, size_t run_len, uint32_t layout, u
  * as it is. A narrow run is never longer than the wide one, a wide one never more than twice as long as the narrow one. Converted back it is the same
  * bytes, and both evaluate alike. Answers 0, or 7, then 6. */
 uint32_t mehkura_convert(const uint8_t *run, size_t run_len, uint32_t layout, uint8_t *out, size_t out_len, size_t *written);
+
+/* Writes one strip, in the wide layout, as SPIR-V words: a list of constants, each value once in the order of first standing, which belongs before the
+ * function, then the body, which belongs into a block of it. The table lends the ids that the words name; those that they make rise from the bound, the
+ * constants' first. The words go to the start of out, their number to *written, how many of them are the constants to *constants, and the first id that
+ * is free to *next, which is the bound of the next strip. What lies in out after the words stays as it is. The bound is no id: for a strip that makes
+ * none it may be any number above the lent ids, and *next becomes it. A translated strip is never refused with 17. Answers 0, or 7, also for no strip or
+ * several, then 17, 10, 11. */
+uint32_t mehkura_to_spirv(const uint8_t *strip, size_t strip_len, uint32_t bound, const uint32_t *table, size_t table_len, uint32_t *out,
+                          size_t out_len, size_t *written, size_t *constants, uint32_t *next);
 
 #ifdef __cplusplus
 }

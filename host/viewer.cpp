@@ -1,6 +1,6 @@
 // What a viewer does with Mehkura: translates the samples into one room, asks what can matter, evaluates the run, keeps a shelf copy of each sample,
-// tests each block by block, and tries every refusal. Writes a line for each part, and ends with 1 at the first thing that is not as it must be. One
-// argument: the folder of the samples.
+// tests each block by block, writes each strip as SPIR-V words, and tries every refusal. Writes a line for each part, and ends with 1 at the first thing
+// that is not as it must be. One argument: the folder of the samples.
 #include "mehkura.h"
 
 #include <algorithm>
@@ -15,6 +15,7 @@
 namespace {
 
 using Bytes = std::vector<uint8_t>;
+using Words = std::vector<uint32_t>;
 using Marks = std::array<uint8_t, MEHKURA_MARKS>;
 using Cells = std::array<uint8_t, MEHKURA_CELLS>;
 
@@ -635,6 +636,218 @@ void blocks(const std::string &samples) {
     std::puts("blocks: the samples in blocks of 1, 7 and 4096 bytes in both layouts, refusal 7 at its byte");
 }
 
+// The ids of a caller: 100 and the place for each, new ones from 1000 on.
+constexpr uint32_t u32 = 100, i32 = 101, truth_type = 102, pointer = 103, glsl = 104, bound = 1000, guard_word = 0xa5a5a5a5;
+constexpr uint32_t reg(uint32_t n) { return 100 + MEHKURA_ID_REGISTER + n; }
+constexpr uint32_t pred(uint32_t n) { return 100 + MEHKURA_ID_PREDICATE + n; }
+constexpr uint32_t flag(uint32_t n) { return 100 + MEHKURA_ID_FLAG + n; }
+constexpr uint32_t slot(uint32_t n) { return 100 + MEHKURA_ID_SLOT + n; }
+
+Words lent_ids() {
+    Words ids(MEHKURA_TABLE);
+    for (size_t i = 0; i < ids.size(); ++i) ids[i] = static_cast<uint32_t>(100 + i);
+    return ids;
+}
+
+// What is handed back with words.
+struct Told {
+    size_t written = 77, constants = 77;
+    uint32_t next = 77;
+
+    bool operator==(const Told &other) const { return written == other.written && constants == other.constants && next == other.next; }
+};
+
+// Writes a strip into a room of so many words, which lies between guard words. The guards are as they were, and so is all after a refusal.
+uint32_t write_words(const Bytes &strip, uint32_t from, const Words &table, size_t room_len, Words &words, Told &told) {
+    constexpr size_t margin = 16;
+    Words room(margin + room_len + margin, guard_word);
+    const Words table_before = table;
+    const Told told_before = told;
+    uint32_t number = mehkura_to_spirv(start(strip), strip.size(), from, start(table), table.size(), room.data() + margin, room_len, &told.written,
+                                       &told.constants, &told.next);
+    const size_t used = number ? 0 : told.written;
+    check(number == 0 || told == told_before, "a refusal leaves the three numbers");
+    check(used <= room_len, "the words are no more than the room holds");
+    check(std::count(room.begin(), room.begin() + margin, guard_word) == margin, "nothing is written before the room");
+    const auto after = room.begin() + static_cast<long>(margin + used);
+    check(std::all_of(after, room.end(), [](uint32_t word) { return word == guard_word; }), "the room after the words is as it was");
+    check(table == table_before, "the table is as it was");
+    words.assign(room.begin() + margin, after);
+    return number;
+}
+
+// A strip becomes these words, so many of them constants, in rooms of every length that is enough; the rooms that are not get 11.
+void becomes(const Bytes &strip, const Words &right, size_t constants, uint32_t next, const std::string &what) {
+    for (size_t more : {0, 1, 7, 500}) {
+        Words words;
+        Told told;
+        check(write_words(strip, bound, lent_ids(), right.size() + more, words, told) == 0, what + " is written");
+        check(words == right, what + ": its words");
+        check(told == Told{right.size(), constants, next}, what + ": what is handed back");
+    }
+    for (size_t n = 0; n < right.size(); ++n) {
+        Words words;
+        Told told;
+        check(write_words(strip, bound, lent_ids(), n, words, told) == 11, what + ": 11 for " + std::to_string(n) + " words");
+    }
+}
+
+// The strip is refused with the number, whatever the room is.
+void unwritten(const Bytes &strip, uint32_t from, const Words &table, uint32_t number, const std::string &what) {
+    for (size_t room : {0, 1, 448}) {
+        Words words;
+        Told told;
+        check(write_words(strip, from, table, room, words, told) == number, what);
+    }
+}
+
+// SPIR-V words: each sample's strips one after another, words spelled out, every refusal in its order.
+void words(const std::string &samples) {
+    // @P1 R2 = cast_u(cast_i(R3) >> 5): a load, open, load, constant, casts that change the sign and one that does not, a shift, a store
+    const Bytes shift{5, 1, 100, 0, 0, 4, 3, 1, 5, 0, 0, 0, 23, 1, 0, 23, 3, 0, 45, 4, 0, 2, 0, 24, 5, 0, 7, 2, 6, 0, 101, 0xff};
+    becomes(shift,
+            {0x0004002b, u32, 1000, 5,                  // OpConstant
+             0x0004003d, truth_type, 1001, pred(1),     // OpLoad
+             0x000300f7, 1003, 0,                       // OpSelectionMerge: the merge has the later id
+             0x000400fa, 1001, 1002, 1003,              // OpBranchConditional
+             0x000200f8, 1002,                          // OpLabel
+             0x0004003d, u32, 1004, reg(3),             // OpLoad
+             0x0004007c, i32, 1005, 1004,               // OpBitcast
+             0x000500c3, i32, 1006, 1005, 1000,         // OpShiftRightArithmetic
+             0x0004007c, u32, 1007, 1006,               // OpBitcast
+             0x0003003e, reg(2), 1007,                  // OpStore
+             0x000200f9, 1003,                          // OpBranch
+             0x000200f8, 1003},                         // OpLabel
+            4, 1008, "a guarded shift");
+    // constants again, a note, an address with a cast of its zero that leaves no word, a minimum by GLSL.std.450, a flag
+    const Bytes constants{3, 1, 0, 0, 0, 0, 2, 3, 110, 4, 1, 0, 0, 0, 0, 24, 4, 0, 10, 9, 11, 6, 0, 5, 0, 1, 0, 4, 0, 12, 7, 0,
+                          49, 8, 0, 1, 0, 7, 254, 9, 0, 9, 3, 3, 0, 0xff};
+    becomes(constants,
+            {0x0003002a, truth_type, 1000,                          // OpConstantFalse
+             0x0004002b, u32, 1001, 0,                              // OpConstant
+             0x00030029, truth_type, 1002,                          // OpConstantTrue
+             0x00070041, pointer, 1003, slot(9), 1001, 1001, 1001,  // OpAccessChain
+             0x0004003d, u32, 1004, 1003,                           // OpLoad
+             0x0007000c, u32, 1005, glsl, 38, 1004, 1001,           // OpExtInst UMin
+             0x0003003e, reg(254), 1005,                            // OpStore
+             0x0003003e, flag(3), 1000},                            // OpStore
+            10, 1006, "constants and an address");
+    // the sign goes on through a select, whose first word is its second operand, and through an insert
+    const Bytes goes_on{5, 6, 4, 0, 23, 1, 0, 90, 0, 0, 2, 0, 2, 0, 93, 3, 0, 2, 0, 1, 0, 1, 0, 24, 4, 0, 7, 1, 5, 0, 0xff};
+    becomes(goes_on,
+            {0x0004003d, truth_type, 1000, pred(6),             // OpLoad
+             0x0004003d, u32, 1001, reg(0),                     // OpLoad
+             0x0004007c, i32, 1002, 1001,                       // OpBitcast
+             0x000600a9, i32, 1003, 1000, 1002, 1002,           // OpSelect
+             0x000700c9, i32, 1004, 1003, 1002, 1001, 1001,     // OpBitFieldInsert
+             0x0004007c, u32, 1005, 1004,                       // OpBitcast
+             0x0003003e, reg(1), 1005},                         // OpStore
+            0, 1006, "a signed select");
+    becomes({0xff}, {}, 0, bound, "the end alone");
+    becomes({10, 0, 110, 1, 10, 31, 0xff}, {}, 0, bound, "slots and a note");
+
+    // each record's strip, from the bound that the last one left: the words are whole instructions, and name the ids from the bound on once each
+    size_t strips = 0, all = 0;
+    uint32_t next = bound;
+    for (const char *name : {"count", "conditions", "constants", "two_records", "padding"}) {
+        const Bytes records = file(samples + "/" + name + ".bin");
+        for (auto at = records.begin(); at != records.end(); at += MEHKURA_RECORD) {
+            Room room(MEHKURA_ANY_STRIP);
+            if (room.add(Bytes(at, at + MEHKURA_RECORD)) != 0) continue;
+            Words list, exact;
+            Told told, again;
+            check(write_words(room.run(), next, lent_ids(), MEHKURA_ANY_WORDS, list, told) == 0, "a sample's strip is written");
+            check(write_words(room.run(), next, lent_ids(), list.size(), exact, again) == 0 && exact == list && again == told, "a room exactly full");
+            check(told.constants <= told.written && told.next >= next, "the numbers fit together");
+            if (!list.empty()) unwritten(room.run(), MEHKURA_MAX_ID + 2 - (told.next - next), lent_ids(), 10, "10 for one id too many");
+            std::vector<uint32_t> made;
+            size_t word = 0;
+            bool whole = false;
+            while (word < list.size()) {
+                whole = whole || word == told.constants;
+                const uint32_t opcode = list[word] & 0xffff, length = list[word] >> 16;
+                check(length > 0 && word + length <= list.size(), "whole instructions");
+                check((opcode >= 41 && opcode <= 43) == (word < told.constants), "the constants stand first");
+                if (opcode == 247) made.insert(made.end(), {list[word + 1] - 1, list[word + 1]});
+                else if (opcode != 62 && opcode < 247) made.push_back(list[word + 2]);
+                word += length;
+            }
+            check(whole || word == told.constants, "the constants are whole instructions");
+            for (size_t i = 0; i < made.size(); ++i) check(made[i] == next + i, "ids rise by one");
+            check(told.next == next + made.size(), "the next id is the first that is free");
+            next = told.next;
+            ++strips;
+            all += list.size();
+        }
+    }
+    check(strips == 10, "the samples have ten strips");
+
+    // 7 comes first: no strip, several, a bad one, a narrow one
+    const Words none, ids = lent_ids(), zeros(MEHKURA_TABLE);
+    const Bytes signed_store{4, 0, 23, 0, 0, 7, 0, 1, 0, 0xff};
+    const Bytes bad_strips[] = {{}, {0xff, 0xff}, joined(shift, shift), joined(signed_store, {0}), {0}, {2}, {4, 0, 7, 0, 0, 0xff}};
+    for (const Bytes &bad : bad_strips)
+        for (const Words &table : {ids, none, zeros})
+            for (uint32_t from : {bound, 0u, 0xffffffffu}) unwritten(bad, from, table, 7, "7 for what is not one strip");
+    // then 17: signs that differ, a signed store, odd zeros, before the table is looked at
+    const Bytes odd[] = {
+        signed_store,
+        {4, 0, 23, 0, 0, 20, 1, 0, 7, 0, 2, 0, 0xff},
+        {2, 4, 0, 23, 1, 0, 90, 0, 0, 1, 0, 2, 0, 0xff},
+        {2, 4, 0, 23, 1, 0, 100, 0, 0, 90, 0, 0, 2, 0, 1, 0, 101, 0xff},
+        {4, 0, 23, 0, 0, 93, 0, 0, 1, 0, 0, 0, 0, 0, 0xff},
+        {4, 0, 23, 0, 0, 93, 1, 0, 0, 0, 0, 0, 0, 0, 0xff},
+        address(3, 1, 0, 0),
+        // the zero is a register, with and without a constant 0; the constant 0 as a signed word, and back from it
+        {4, 0, 10, 0, 11, 1, 0, 0, 0, 0, 0, 0, 0, 0xff},
+        {4, 0, 1, 0, 0, 0, 0, 10, 0, 11, 2, 0, 0, 0, 1, 0, 1, 0, 0xff},
+        {1, 0, 0, 0, 0, 23, 0, 0, 10, 0, 11, 2, 0, 1, 0, 0, 0, 0, 0, 0xff},
+        {1, 0, 0, 0, 0, 23, 0, 0, 24, 1, 0, 10, 0, 11, 3, 0, 2, 0, 0, 0, 0, 0, 0xff},
+    };
+    for (const Bytes &strip : odd) {
+        check(mehkura_shape(strip.data(), strip.size(), MEHKURA_WIDE) == 0, "a strip that is well-formed");
+        for (const Words &table : {ids, none, zeros})
+            for (uint32_t from : {bound, 0u, 0xffffffffu}) unwritten(strip, from, table, 17, "17 for what words cannot say");
+    }
+    // then 10: the table's length, each way in which an id can be wrong at each place, the bound
+    auto with = [&](size_t place, uint32_t id) {
+        Words table = ids;
+        table[place] = id;
+        return table;
+    };
+    for (size_t n : {0, 1, 302, 304, 305, 606}) {
+        Words table = ids;
+        for (uint32_t id = 500; table.size() < n; ++id) table.push_back(id);
+        table.resize(n);
+        unwritten(shift, bound, table, 10, "10 for a table of " + std::to_string(n) + " ids");
+        unwritten({0xff}, bound, table, 10, "10 for a table of " + std::to_string(n) + " ids and no words");
+    }
+    for (size_t place = 0; place < MEHKURA_TABLE; ++place) {
+        for (uint32_t id : {0u, bound, bound + 1, 0xffffffffu}) unwritten(shift, bound, with(place, id), 10, "10 for id " + std::to_string(id));
+        for (size_t more : {1, 8, 150, 302})
+            unwritten(shift, bound, with(place, ids[(place + more) % MEHKURA_TABLE]), 10, "10 for an id twice");
+        Words list;
+        Told told;
+        check(write_words(shift, bound, with(place, 1), MEHKURA_ANY_WORDS, list, told) == 0, "an id of 1");
+        check(write_words(shift, bound, with(place, bound - 1), MEHKURA_ANY_WORDS, list, told) == 0, "an id just below the bound");
+        check(write_words({0xff}, 0xffffffff, with(place, MEHKURA_MAX_ID), 0, list, told) == 0, "an id at the limit");
+        unwritten({0xff}, 0xffffffff, with(place, MEHKURA_MAX_ID + 1), 10, "10 for an id above the limit");
+    }
+    for (uint32_t from : {0u, 1u, 100u, 402u}) unwritten({0xff}, from, ids, 10, "10 for a bound that is not above the lent ids");
+    // eight new ids; the bound is no id
+    Words list;
+    Told told;
+    check(write_words(shift, 403, ids, MEHKURA_ANY_WORDS, list, told) == 0 && told.next == 411, "the bound next to the lent ids");
+    check(write_words(shift, MEHKURA_MAX_ID - 7, ids, MEHKURA_ANY_WORDS, list, told) == 0 && told.next == MEHKURA_MAX_ID + 1, "the last at the limit");
+    for (uint32_t from : {MEHKURA_MAX_ID - 6u, MEHKURA_MAX_ID + 1u, 0x80000000u, 0xfffffff8u, 0xfffffff9u, 0xffffffffu})
+        unwritten(shift, from, ids, 10, "10 for new ids above the limit");
+    for (uint32_t from : {403u, MEHKURA_MAX_ID + 1u, MEHKURA_MAX_ID + 2u, 0xffffffffu}) {
+        Told left;
+        check(write_words({0xff}, from, ids, 0, list, left) == 0 && left == Told{0, 0, from}, "without new ids any bound above the lent ones");
+    }
+    std::printf("words: %zu strips of the samples in %zu words, refusals 7, 17, 10 and 11\n", strips, all);
+}
+
 } // namespace
 
 int main(int argc, char **argv) {
@@ -645,6 +858,7 @@ int main(int argc, char **argv) {
     conversions();
     shelf(samples);
     blocks(samples);
+    words(samples);
     one_room(samples);
     count(samples);
     conditions(samples);

@@ -2,10 +2,11 @@
 //!
 //! - [`translate`] and [`translate_into`] give a record's strip or its refusal.
 //! - [`shape`] tests a run of strips in plain Rust, [`evaluate`] runs it, [`mod@reach`] says which cells matter to it,
-//!   [`mod@convert`] writes it in the other layout.
+//!   [`mod@convert`] writes it in the other layout, [`words`] writes a strip as SPIR-V words.
 //! - [`mod@meaning`] says what a record does to a state, without any strip.
-//! - [`generate`] makes random records, [`strips`] random strips, [`starts`] random states and lists of constants,
-//!   [`vectors`] the stored list of answers, [`cases`] hand-made runs with theirs, [`works`] the lines of the two works.
+//! - [`generate`] makes random records, [`strips`] random strips, [`spirv_strips`] those for the writer of SPIR-V words,
+//!   [`starts`] random states and lists of constants, [`vectors`] the stored list of answers, [`cases`] hand-made runs
+//!   with theirs, [`works`] the lines of the two works.
 //! - [`mod@print`] is the strip printer, [`mod@check`] the run checker.
 
 pub mod cases;
@@ -23,10 +24,12 @@ pub mod record;
 mod reference;
 pub mod rng;
 pub mod shape;
+pub mod spirv_strips;
 mod standins;
 pub mod starts;
 pub mod strips;
 pub mod vectors;
+pub mod words;
 pub mod works;
 
 use format::{Entry, Layout};

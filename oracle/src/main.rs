@@ -7,6 +7,7 @@ use oracle::format::{Entry, Layout, encode, value_count};
 use oracle::generate::{random_admitted, random_record};
 use oracle::record::NAMES;
 use oracle::rng::Rng;
+use oracle::spirv_strips::spirv_strip;
 use oracle::{SLOTS, cases, check, print, translate_entries, vectors, works};
 
 const HELP: &str = "\
@@ -48,6 +49,9 @@ Usage:
   oracle strips COUNT SEED [--narrow]
       Writes the strips of COUNT random admitted records to standard output, as one run in the wide layout.
       --narrow writes it in the narrow layout.
+  oracle spirv-strips COUNT SEED
+      Writes COUNT random strips that no record gives, for the writer of SPIR-V words: for each its length (2 bytes,
+      little-endian) and the strip, in the wide layout.
   oracle help | --help | -h
       Prints this text.
 
@@ -107,9 +111,11 @@ fn run(args: &[&str]) -> Result<(), Failure> {
         ["strips", count, seed, "--narrow"] | ["strips", "--narrow", count, seed] => {
             strips(output, number(count)?, number(seed)?, Layout::Narrow)
         }
+        ["spirv-strips", count, seed] => spirv_strips(output, number(count)?, number(seed)?),
         [] => Err(Failure::Usage("no command".to_owned())),
         [
-            command @ ("print" | "check-run" | "gen" | "vectors" | "cases" | "works" | "count" | "narrow" | "strips"),
+            command @ ("print" | "check-run" | "gen" | "vectors" | "cases" | "works" | "count" | "narrow" | "strips"
+            | "spirv-strips"),
             ..,
         ] => Err(Failure::Usage(format!("wrong arguments for `{command}`"))),
         [command, ..] => Err(Failure::Usage(format!("no command `{command}`"))),
@@ -205,6 +211,16 @@ fn random_strips(count: u64, seed: u64) -> impl Iterator<Item = Vec<Entry>> {
 fn strips(mut output: impl Write, count: u64, seed: u64, layout: Layout) -> Result<(), Failure> {
     for entries in random_strips(count, seed) {
         output.write_all(&encode(&entries, layout))?;
+    }
+    Ok(output.flush()?)
+}
+
+fn spirv_strips(mut output: impl Write, count: u64, seed: u64) -> Result<(), Failure> {
+    let mut rng = Rng::new(seed);
+    for _ in 0..count {
+        let strip = encode(&spirv_strip(&mut rng), Layout::Wide);
+        output.write_all(&u16::try_from(strip.len()).expect("strips are short").to_le_bytes())?;
+        output.write_all(&strip)?;
     }
     Ok(output.flush()?)
 }

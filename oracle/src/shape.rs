@@ -114,6 +114,8 @@ fn entry_len<const REF: usize>(kind: u8) -> usize {
 /// What is told of the entries while their shape is tested, strip by strip. What is told before the test fails is not to
 /// be relied on.
 pub(crate) trait Watch {
+    /// A constant: its kind, and the bits of a word, else 0.
+    fn constant(&mut self, _kind: u8, _bits: u32) {}
     fn load_register(&mut self, _register: u8) {}
     fn load_predicate(&mut self, _predicate: u8) {}
     fn load_flag(&mut self, _flag: u8) {}
@@ -140,6 +142,12 @@ pub(crate) fn shape_ok_watched<const REF: usize>(run: &[u8], watch: &mut impl Wa
         }
     }
     true
+}
+
+/// Whether the bytes are exactly one well-formed strip. At most 63 entries before its end are told of.
+#[inline(always)]
+pub(crate) fn one_strip_watched<const REF: usize>(bytes: &[u8], watch: &mut impl Watch) -> bool {
+    skip_strip(Rest::<REF>(bytes), watch).is_some_and(|after| after.0.is_empty())
 }
 
 /// What lies after the first strip, or `None` if its shape is wrong.
@@ -229,10 +237,14 @@ impl Strip {
         let v = &mut self.values;
         match rest.kind()? {
             1 => {
-                let ([_, _, _, _], []) = body(rest, watch)?;
+                let (word, []) = body(rest, watch)?;
+                watch.constant(1, u32::from_le_bytes(word));
                 v.add_word();
             }
-            2 | 3 => v.add_truth(),
+            kind @ (2 | 3) => {
+                watch.constant(kind, 0);
+                v.add_truth();
+            }
             4 => {
                 let ([cell], []) = body(rest, watch)?;
                 need(cell <= 254)?;

@@ -1,5 +1,5 @@
-//! Random strips: well-formed ones that no record gives, some of them suited to evaluation, near misses, and damaged
-//! bytes.
+//! Random strips: well-formed ones that no record gives, some of them suited to evaluation or to the writer of SPIR-V
+//! words, near misses, and damaged bytes.
 
 use crate::format::{Entry, Immediate, Layout, MAX_ENTRIES, Value, encode, kind, signature, value_count};
 use crate::rng::Rng;
@@ -131,12 +131,44 @@ fn finish(entries: &mut Vec<Entry>) {
 
 /// What is known of a value without running the strip.
 #[derive(Clone, Copy)]
-struct Known {
-    sort: Value,
+pub(crate) struct Known {
+    pub sort: Value,
     /// The bits of a constant word, or 1 or 0 for a constant truth.
-    constant: Option<u32>,
+    pub constant: Option<u32>,
     /// Whether it is defined whatever the state and the list are.
-    sure: bool,
+    pub sure: bool,
+}
+
+impl Known {
+    /// What is known of the value of an entry after `values`; `None` if it makes none.
+    pub fn of(kind: u8, immediate: u32, refs: &[u16], values: &[Known]) -> Option<Known> {
+        let constant = match kind {
+            kind::WORD => Some(immediate),
+            kind::TRUE => Some(1),
+            kind::FALSE => Some(0),
+            _ => None,
+        };
+        let sort = signature(kind).expect("known").result?;
+        Some(Known { sort, constant, sure: is_sure(kind, refs, values) })
+    }
+}
+
+fn is_sure(kind: u8, refs: &[u16], values: &[Known]) -> bool {
+    let sure = |r: u16| values[usize::from(r)].sure;
+    let constant = |r: u16| values[usize::from(r)].constant;
+    match (kind, refs) {
+        (90, [condition, a, b]) => match constant(*condition) {
+            Some(0) => sure(*b),
+            Some(_) => sure(*a),
+            None => refs.iter().all(|r| sure(*r)),
+        },
+        (43..=45, [_, count]) => refs.iter().all(|r| sure(*r)) && constant(*count).is_some_and(|n| n < 32),
+        (91..=93, [.., offset, length]) => {
+            refs.iter().all(|r| sure(*r))
+                && matches!((constant(*offset), constant(*length)), (Some(o), Some(l)) if o <= 32 && l <= 32 - o)
+        }
+        _ => refs.iter().all(|r| sure(*r)),
+    }
 }
 
 /// Makes a strip whose values are mostly defined and whose addresses are mostly in range.
@@ -150,38 +182,12 @@ struct Maker<'a> {
 }
 
 impl Maker<'_> {
-    /// Adds an entry and gives the number of its value, or 0 if it makes none.
+    /// Adds an entry and gives the number that its value has, if it makes one.
     fn add(&mut self, kind: u8, immediate: u32, refs: &[u16]) -> u16 {
         let number = self.values.len() as u16;
-        if let Some(sort) = signature(kind).expect("known").result {
-            let constant = match kind {
-                kind::WORD => Some(immediate),
-                kind::TRUE => Some(1),
-                kind::FALSE => Some(0),
-                _ => None,
-            };
-            self.values.push(Known { sort, constant, sure: self.is_sure(kind, refs) });
-        }
+        self.values.extend(Known::of(kind, immediate, refs, &self.values));
         self.entries.push(Entry::new(kind, immediate, refs));
         number
-    }
-
-    fn is_sure(&self, kind: u8, refs: &[u16]) -> bool {
-        let sure = |r: u16| self.values[usize::from(r)].sure;
-        let constant = |r: u16| self.values[usize::from(r)].constant;
-        match (kind, refs) {
-            (90, [condition, a, b]) => match constant(*condition) {
-                Some(0) => sure(*b),
-                Some(_) => sure(*a),
-                None => refs.iter().all(|r| sure(*r)),
-            },
-            (43..=45, [_, count]) => refs.iter().all(|r| sure(*r)) && constant(*count).is_some_and(|n| n < 32),
-            (91..=93, [.., offset, length]) => {
-                refs.iter().all(|r| sure(*r))
-                    && matches!((constant(*offset), constant(*length)), (Some(o), Some(l)) if o <= 32 && l <= 32 - o)
-            }
-            _ => refs.iter().all(|r| sure(*r)),
-        }
     }
 
     /// A value of the sort that is surely defined, or not surely; any if there is none such.
@@ -411,6 +417,112 @@ pub fn evaluation_strip(rng: &mut Rng) -> Vec<Entry> {
         }
     }
     let mut entries = maker.entries;
+    finish(&mut entries);
+    entries
+}
+
+/// A word as the writer of SPIR-V words sees it.
+#[derive(Clone, Copy)]
+struct Typed {
+    number: u16,
+    signed: bool,
+    /// Whether it has the id of the constant 0, if it is unsigned.
+    zero: bool,
+}
+
+/// Makes a strip with words of both signs.
+struct Typist<'a> {
+    rng: &'a mut Rng,
+    entries: Vec<Entry>,
+    values: Values,
+    words: Vec<Typed>,
+    /// Once in so many times an entry takes a word that words cannot say there.
+    care: usize,
+}
+
+impl Typist<'_> {
+    /// An entry of the kind. Selects, inserts, register stores and addresses mostly take words of fitting signs, and the
+    /// constant 0. Nothing, for lack of operands.
+    fn add(&mut self, kind: u8) -> Option<()> {
+        let signature = signature(kind).expect("known");
+        let careful = !self.rng.one_in(self.care);
+        let mut typed = [None; 4];
+        let mut refs = [0; 4];
+        for (at, wanted) in signature.operands.iter().enumerate() {
+            if *wanted != Value::Word {
+                refs[at] = self.values.pick(self.rng, *wanted)?;
+                continue;
+            }
+            let fits = |word: &Typed| match (kind, at) {
+                (kind::STORE_REGISTER, _) => !word.signed,
+                (kind::ADDRESS, 1) => word.zero && !word.signed,
+                (90, 2) | (93, 1) => typed[at - 1].is_some_and(|before: Typed| before.signed == word.signed),
+                _ => true,
+            };
+            let fitting: Vec<Typed> = self.words.iter().filter(|word| !careful || fits(word)).copied().collect();
+            if fitting.is_empty() {
+                return None;
+            }
+            // Late values are taken more often, so that casts of casts arise.
+            let late = fitting.len() - 1 - self.rng.below(fitting.len().min(3));
+            let place = if self.rng.one_in(2) { late } else { self.rng.below(fitting.len()) };
+            typed[at] = Some(fitting[place]);
+            refs[at] = fitting[place].number;
+        }
+        let immediate = match signature.immediate {
+            Immediate::None => 0,
+            // Few values, so that many stand there more than once.
+            Immediate::Word => self.rng.pick(&[0, 0, 0, 1, 2, 16, 0xff, 0x8000_0000, u32::MAX]),
+            Immediate::Byte(least, most) => u32::from(least) + self.rng.below(usize::from(most - least) + 1) as u32,
+        };
+        if let Some(sort) = signature.result {
+            let number = self.values.count;
+            self.values.numbers[sort as usize].push(number);
+            self.values.count += 1;
+            if sort == Value::Word {
+                let first = typed.into_iter().flatten().next();
+                self.words.push(match (kind, first) {
+                    (kind::CAST_I, _) => Typed { number, signed: true, zero: false },
+                    (kind::CAST_U, Some(first)) => Typed { number, signed: false, zero: first.zero && !first.signed },
+                    (_, Some(first)) => Typed { number, signed: first.signed, zero: false },
+                    (_, None) => Typed { number, signed: false, zero: kind == kind::WORD && immediate == 0 },
+                });
+            }
+        }
+        self.entries.push(Entry::new(kind, immediate, &refs[..signature.operands.len()]));
+        Some(())
+    }
+}
+
+/// A well-formed strip for the writer of SPIR-V words: words of both signs, casts of casts, constants that stand there
+/// more than once, addresses. Most can be said in words; odd zeros and signs that differ occur too.
+pub fn words_strip(rng: &mut Rng) -> Vec<Entry> {
+    const TRUTHS: [u8; 4] = [kind::TRUE, kind::FALSE, kind::LOAD_PREDICATE, kind::LOAD_FLAG];
+    let Plan { total, last_inner, open_at } = Plan::random(rng);
+    let care = rng.pick(&[2, 16, 64, 256]);
+    let (values, words) = (Values::default(), Vec::new());
+    let mut typist = Typist { rng, entries: Vec::with_capacity(total), values, words, care };
+    while typist.entries.len() < last_inner {
+        let place = typist.entries.len();
+        let wanted = if place == open_at {
+            kind::OPEN
+        } else if place + 1 == open_at && !typist.values.has_truth() {
+            typist.rng.pick(&TRUTHS)
+        } else {
+            match typist.rng.below(16) {
+                0..=2 => kind::WORD,
+                3 => kind::LOAD_REGISTER,
+                4 => typist.rng.pick(&TRUTHS),
+                5..=7 => typist.rng.pick(&[kind::CAST_I, kind::CAST_U]),
+                8 => typist.rng.pick(&[90, 93]),
+                9 => kind::STORE_REGISTER,
+                _ => random_kind(typist.rng),
+            }
+        };
+        // Without operands nothing is added, and another kind is tried.
+        let _ = typist.add(wanted);
+    }
+    let mut entries = typist.entries;
     finish(&mut entries);
     entries
 }

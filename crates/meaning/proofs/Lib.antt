@@ -25,3 +25,4 @@ pub mod Demand3
 pub mod Works
 pub mod Interpreted
 pub mod Dead
+pub mod Signs

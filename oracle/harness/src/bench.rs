@@ -10,7 +10,7 @@ use oracle::rng::Rng;
 use oracle::starts::{random_state, random_words};
 use oracle::{Form, SLOTS, translate_entries};
 
-use crate::{convert_bench, evaluate_bench, reach_bench, shape_bench, translate_bench};
+use crate::{convert_bench, evaluate_bench, reach_bench, shape_bench, translate_bench, words_bench};
 
 /// Strips, or records, of a row. A round takes a few milliseconds, so that some are not interrupted on a busy machine.
 pub const STRIPS: usize = 10_000;
@@ -23,12 +23,13 @@ const SEED: u64 = 1;
 type Rows = for<'a> fn(&'a Works) -> Vec<Row<'a>>;
 
 /// The parts by name.
-const PARTS: [(&str, Rows); 5] = [
+const PARTS: [(&str, Rows); 6] = [
     ("shape", shape_bench::rows),
     ("evaluation", evaluate_bench::rows),
     ("translation", translate_bench::rows),
     ("reach", reach_bench::rows),
     ("convert", convert_bench::rows),
+    ("spirv", words_bench::rows),
 ];
 
 /// What one round over the work gives: its time and what it leaves. `None` if something was refused.

@@ -142,7 +142,7 @@ impl Bench {
         let mut rng = Rng::new(seed);
         let words = random_words(&mut rng);
         let pattern = (0..1 << 16).map(|_| rng.next_u64() as u8).collect();
-        Bench { rng, words, pattern, rooms: Rooms::default(), evaluated: [0; EVALUATED.len()] }
+        Bench { rng, words, pattern, rooms: Rooms::new(6), evaluated: [0; EVALUATED.len()] }
     }
 
     /// A room of so many bytes between its margins.

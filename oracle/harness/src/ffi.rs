@@ -1,6 +1,7 @@
 //! The functions of the static library, each with a safe wrapper. Nothing compares these declarations with the
 //! library's own, so they are few and take numbers and byte lists only.
 
+use oracle::words::Written;
 use oracle::{evaluate, meaning};
 
 mod raw {
@@ -47,6 +48,18 @@ mod raw {
             out: *mut u8,
             out_len: usize,
             written: *mut usize,
+        ) -> u32;
+        pub fn mehkura_to_spirv(
+            strip: *const u8,
+            strip_len: usize,
+            bound: u32,
+            table: *const u32,
+            table_len: usize,
+            out: *mut u32,
+            out_len: usize,
+            written: *mut usize,
+            constants: *mut usize,
+            next: *mut u32,
         ) -> u32;
     }
 }
@@ -232,4 +245,26 @@ pub fn convert(run: &[u8], layout: u32, room: &mut [u8], written: &mut usize) ->
     // SAFETY: the pointers and lengths are those of live slices and of one number. The library writes to room and the
     // number alone, which are borrowed for that and do not overlap.
     unsafe { raw::mehkura_convert(run.as_ptr(), run.len(), layout, room.as_mut_ptr(), room.len(), written) }
+}
+
+/// The number that the library gives for a strip, a bound and a table of ids: 0 if it is written, else 7, 17, 10 or 11.
+/// Then its words stand at the room's start, and `told` says how many there are, how many of them are the constants, and
+/// which id is free. A refusal must leave both as they are.
+pub fn to_spirv(strip: &[u8], bound: u32, table: &[u32], room: &mut [u32], told: &mut Written) -> u32 {
+    // SAFETY: the pointers and lengths are those of live slices and of three numbers. The library writes to room and the
+    // numbers alone, which are borrowed for that and do not overlap.
+    unsafe {
+        raw::mehkura_to_spirv(
+            strip.as_ptr(),
+            strip.len(),
+            bound,
+            table.as_ptr(),
+            table.len(),
+            room.as_mut_ptr(),
+            room.len(),
+            &mut told.words,
+            &mut told.constants,
+            &mut told.next,
+        )
+    }
 }

@@ -19,9 +19,12 @@ mod runs;
 mod shape_bench;
 mod shape_blocks;
 mod shape_diff;
+mod tables;
 mod translate_bench;
 mod translate_bits;
 mod translate_diff;
+mod words_bench;
+mod words_diff;
 
 use std::process::ExitCode;
 
@@ -63,14 +66,21 @@ Usage:
       enough, longer, shorter or empty. Compares the number, the length and every byte of the room, also beside it. What
       is converted must be well-formed in the other layout, become the same run when it is converted back, and evaluate
       as the run does. Some ten thousand runs are needed for every class to have its answers.
+  harness words-diff COUNT SEED
+      Runs both writers of SPIR-V words on COUNT random strips (translated, of both signs, made at random, near misses,
+      damaged, none, several), with bounds and tables of ids that are right, and wrong in each way, into rooms that are
+      exactly long enough, longer, shorter or empty. Compares the number, the three numbers that are handed back and
+      every word of the room, also beside it. A translated strip must never get 17. Some ten thousand strips are needed
+      for every class to have its answers; from 100,000 on every kind of entry must have been written.
   harness random-bytes COUNT SEED
       Calls each function of the library COUNT times on random bytes, on records and runs with bytes changed, and on
       lists of right and wrong lengths. A number that the function cannot answer, a write beside a lent list, or any
       write where it refuses is wrong; a shape test in blocks must go on refusing. Prints how often each number was
       answered; each must be seen. Some ten thousand calls are needed. One thread for each processor.
-  harness bench [shape | evaluation | translation | reach | convert]
+  harness bench [shape | evaluation | translation | reach | convert | spirv]
       Measures port and Rust on the same work and prints one table: nanoseconds for each strip by the port and by the
-      Rust, and their ratio, port to Rust. Best of many rounds, port and Rust in turn. With a name only these rows.
+      Rust, and their ratio, port to Rust. Best of many rounds, port and Rust in turn. With a name only these rows. The
+      two last ones of spirv have the port's translation in the place of the Rust.
   harness help | --help | -h
       Prints this text.
 
@@ -109,6 +119,9 @@ fn main() -> ExitCode {
         ["convert-diff", count, seed] => {
             number(count).and_then(|count| number(seed).map(|seed| convert_diff::run(count, seed)))
         }
+        ["words-diff", count, seed] => {
+            number(count).and_then(|count| number(seed).map(|seed| words_diff::run(count, seed)))
+        }
         ["bench"] => Ok(bench::run(None).expect("all parts")),
         ["bench", part] => bench::run(Some(part)).ok_or_else(|| format!("no benchmark `{part}`")),
         ["random-bytes", count, seed] => {
@@ -117,7 +130,7 @@ fn main() -> ExitCode {
         [] => Err("no command".to_owned()),
         [
             command @ ("shape-diff" | "evaluate-diff" | "translate-diff" | "translate-bits" | "meaning-diff"
-            | "reach-diff" | "convert-diff" | "random-bytes" | "bench"),
+            | "reach-diff" | "convert-diff" | "words-diff" | "random-bytes" | "bench"),
             ..,
         ] => Err(format!("wrong arguments for `{command}`")),
         [command, ..] => Err(format!("no command `{command}`")),

@@ -14,11 +14,13 @@ use oracle::record::RECORD_LEN;
 use oracle::rng::Rng;
 use oracle::starts::{ALL_WORDS, random_words};
 use oracle::strips::{TELLING_BYTES, damage, evaluation_strip, random_strip};
+use oracle::words::{MAX_WORDS, Written};
 
 use crate::ffi::{self, Fault, SHAPE_STATE};
 use crate::lent::Lent;
 use crate::pair::{MarkBytes, ROOM};
 use crate::runs::{NO_LAYOUT, translated_near, translated_strip};
+use crate::tables::Lending;
 
 /// Wrong answers that are printed by a thread for each function.
 const SHOWN: u64 = 5;
@@ -29,8 +31,8 @@ const BATCH: u64 = 10_000;
 /// Strips to take and change.
 const STOCK: usize = 4096;
 
-/// The numbers that there are: 0 and 01's refusals.
-const NUMBERS: usize = 10;
+/// The numbers that there are: 0, 01's refusals, and those of the writer of SPIR-V words.
+const NUMBERS: [u32; 13] = [0, 1, 2, 3, 4, 5, 6, 7, 8, 9, 10, 11, 17];
 
 const MARKS: usize = size_of::<MarkBytes>();
 const REGISTERS: usize = 255;
@@ -45,7 +47,7 @@ struct Function {
     call: fn(&mut Caller) -> Result<u32, String>,
 }
 
-const FUNCTIONS: [Function; 8] = [
+const FUNCTIONS: [Function; 9] = [
     Function { name: "translate", numbers: &[0, 1, 2, 3, 4, 5, 6], call: |caller| caller.translate() },
     Function { name: "shape", numbers: &[0, 7], call: |caller| caller.shape() },
     Function { name: "shape_begin", numbers: &[0, 7], call: |caller| caller.shape_begin() },
@@ -54,6 +56,7 @@ const FUNCTIONS: [Function; 8] = [
     Function { name: "evaluate", numbers: &[0, 7, 8, 9], call: |caller| caller.evaluate() },
     Function { name: "reach", numbers: &[0, 7], call: |caller| caller.reach() },
     Function { name: "convert", numbers: &[0, 6, 7], call: |caller| caller.convert() },
+    Function { name: "to_spirv", numbers: &[0, 7, 10, 11, 17], call: |caller| caller.write_words() },
 ];
 
 /// What is made once, and only read.
@@ -90,8 +93,11 @@ struct Caller<'a> {
     /// A length, or how many bytes are passed.
     written: Lent<usize>,
     strips: Lent<usize>,
+    /// Registers, or a table of ids.
     registers: Lent<u32>,
     fault: Lent<Fault>,
+    words: Lent<u32>,
+    told: Lent<Written>,
 }
 
 impl<'a> Caller<'a> {
@@ -106,6 +112,8 @@ impl<'a> Caller<'a> {
             strips: Lent::default(),
             registers: Lent::default(),
             fault: Lent::default(),
+            words: Lent::default(),
+            told: Lent::default(),
         }
     }
 
@@ -362,6 +370,44 @@ impl<'a> Caller<'a> {
         self.verdict(number, untouched)
     }
 
+    fn write_words(&mut self) -> Result<u32, String> {
+        self.fill_run();
+        // Right ids, or not, of a right length mostly, and at times any numbers.
+        let new = self.rng.below(64) as u32;
+        let Lending { mut bound, mut table, .. } = Lending::random(&mut self.rng, new);
+        if self.rng.one_in(8) {
+            bound = self.rng.next_u64() as u32;
+        }
+        if self.rng.one_in(8) {
+            let len = self.len(table.len(), 2 * table.len());
+            table = (0..len).map(|_| self.rng.next_u64() as u32).collect();
+        }
+        let any = self.rng.next_u64();
+        let (some, other) = (any as u32, (any >> 32) as u32);
+        self.registers.fill(&mut self.rng, some, table);
+        let len = self.len(MAX_WORDS, 2 * MAX_WORDS);
+        let len = if self.rng.one_in(4) { self.rng.below(64) } else { len };
+        self.words.fill(&mut self.rng, other, std::iter::repeat_n(some, len));
+        let margin = Written { words: any as usize, constants: !any as usize, next: some };
+        self.told.fill(&mut self.rng, margin, [Written { words: !any as usize, constants: any as usize, next: other }]);
+
+        let told = &mut self.told.list()[0];
+        let number = ffi::to_spirv(self.input.list(), bound, self.registers.list(), self.words.list(), told);
+        let told = *told;
+        let untouched = self.input.is_kept()
+            && self.registers.is_kept()
+            && if number == 0 {
+                self.words.is_kept_beside(told.words)
+                    && self.told.is_kept_around(1)
+                    && told.constants <= told.words
+                    && told.words <= MAX_WORDS
+                    && told.next >= bound
+            } else {
+                self.words.is_kept() && self.told.is_kept()
+            };
+        self.verdict(number, untouched)
+    }
+
     /// Whether nothing is written beside the bytes that were asked for, and nothing at all where the call is refused.
     fn is_room_kept(&self, number: u32, len: usize) -> bool {
         if number == 0 {
@@ -383,7 +429,7 @@ impl<'a> Caller<'a> {
 /// Counts of one function.
 #[derive(Clone, Copy, Default)]
 struct Tally {
-    numbers: [u64; NUMBERS],
+    numbers: [u64; NUMBERS.len()],
     wrong: u64,
 }
 
@@ -401,7 +447,10 @@ impl Tally {
             known.then_some(number).ok_or_else(|| format!("{number}; {}", hex(caller.input.list_before())))
         });
         match answer {
-            Ok(number) => self.numbers[number as usize] += 1,
+            Ok(number) => {
+                let place = NUMBERS.iter().position(|known| *known == number).expect("known");
+                self.numbers[place] += 1;
+            }
             Err(wrong) => {
                 self.wrong += 1;
                 if self.wrong <= SHOWN {
@@ -415,7 +464,7 @@ impl Tally {
     fn report(&self, function: &Function) -> bool {
         let mut complaint = String::new();
         print!("{:<11}", function.name);
-        for (number, times) in (0..).zip(self.numbers) {
+        for (number, times) in NUMBERS.into_iter().zip(self.numbers) {
             if function.numbers.contains(&number) {
                 print!(" {times:>9}");
                 if times == 0 {
@@ -461,7 +510,7 @@ pub fn run(count: u64, seed: u64) -> bool {
     });
 
     print!("{:<11}", "");
-    for number in 0..NUMBERS {
+    for number in NUMBERS {
         print!(" {number:>9}");
     }
     println!(" {:>7}", "wrong");

@@ -13,16 +13,16 @@ use crate::bench::{Round, Row, SHORT, STRIPS, Works};
 use crate::ffi;
 use crate::pair::{MarkBytes, ROOM, mark_bytes};
 
-const SEED: u64 = 1;
+pub const SEED: u64 = 1;
 
 /// The marks at the start of a round.
 const START: Marks = [0; SLOTS];
 
-type Bytes = [u8; RECORD_LEN];
+pub type Bytes = [u8; RECORD_LEN];
 
 /// What a round leaves: how many bytes were written in all, the marks, and the last strip.
 #[derive(PartialEq, Eq)]
-struct Left<M> {
+pub struct Left<M> {
     written: usize,
     marks: M,
     last: Vec<u8>,
@@ -44,7 +44,7 @@ fn round<M>(
     Some((time, Left { written, marks, last: room[..len].to_vec() }))
 }
 
-fn round_library(records: &[Bytes]) -> Round<Left<MarkBytes>> {
+pub fn round_library(records: &[Bytes]) -> Round<Left<MarkBytes>> {
     round(records, mark_bytes(&START), |record, marks, room| {
         let mut len = 0;
         (ffi::translate(record, marks, room, &mut len) == 0).then_some(len)
@@ -62,7 +62,7 @@ fn round_rust(
 }
 
 /// Random admitted records, each changed in some way.
-fn records(rng: &mut Rng, count: usize, change: impl Fn(Record) -> Record) -> Vec<Bytes> {
+pub fn records(rng: &mut Rng, count: usize, change: impl Fn(Record) -> Record) -> Vec<Bytes> {
     let mut all = Vec::with_capacity(count);
     while all.len() < count {
         let record = change(random_admitted(rng));

@@ -141,7 +141,7 @@ pub fn run(count: u64, seed: u64) -> bool {
     let mut pair = Pair::new(&mut rng);
     let mut shown = 0;
     let mut tallies: [Tally; CLASSES.len()] = Default::default();
-    let mut rooms = Rooms::default();
+    let mut rooms = Rooms::new(6);
     let mut dead = Dead::default();
     for index in 0..count {
         let at = (index % CLASSES.len() as u64) as usize;

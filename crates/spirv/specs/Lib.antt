@@ -1,0 +1,9 @@
+pub mod Instr
+pub mod Reading
+pub mod Opcodes
+pub mod Writer
+pub mod Lent
+pub mod Claim
+pub mod Valid
+pub mod Page
+pub mod Answer
