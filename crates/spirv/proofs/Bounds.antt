@@ -1,12 +1,12 @@
 -- The words of a strip in order fit the code's buffer, and each fits 32 bits where the ids are in order.
-use mathlib.Core.Path.{_≡_, refl, ap, _∙_, sym}
+use mathlib.Core.Path.{_≡_, refl, ap, _∙_}
 use mathlib.Core.List.{List, [], _∷_, _++_, map, append-nil}
-use mathlib.Core.Bool.{Bool, true, false, cond, not, _&&_, _||_, xor, false≢true, true≢false}
+use mathlib.Core.Bool.{Bool, true, false, cond, not, _||_, xor, false≢true}
 use Prim.Native.Nat.{ℕ, zero, suc, _+_, _*_, _≤_, _<_}
 use native.Mathlib.Omega.{arith}
 use lib.ListN.{length, getD, length-append}
 use lib.Dec.{ltb, leb, eqb}
-use borrow.Author.Tests.{ltb-true, leb-true, eqb-true}
+use borrow.Author.Tests.{ltb-true, leb-true}
 use Rattle.strip.specs.declared.reader.Entry.{Entry}
 use Rattle.strip.specs.declared.reader.Entry.the-variants as Of
 use Rattle.strip.specs.Format.{formatOf}
@@ -21,10 +21,9 @@ use Rattle.spirv.specs.declared.opcodes.Op.the-variants.{Core, Glsl}
 use Rattle.spirv.specs.declared.plan.Name.{Name}
 use Rattle.spirv.specs.Opcodes.{Row, rows, lookup, opOf}
 use Rattle.spirv.specs.Instr.{Instr, instr, wordsOf, allWords}
-use Rattle.spirv.specs.Writer.{Const, constOf, listed, placeOf, withNew, constantsFrom, constantsOf, Given, lent, cellsAt, typeId, constId, name, nameAt, Plan, Silent, Known, Made, Stores, Opens, Closes, planned, firstSign, signOf, operation, casting, planOf, Midway, midway, instrsBy, after, stepped, bodyFrom, lastFrom, constInstr, constInstrs, givenOf, startOf, instrsOfStrip, stripWords, nextId, idLimit, lentOk, distinct, tableOk, idsOk}
+use Rattle.spirv.specs.Writer.{Const, constOf, listed, withNew, constantsFrom, constantsOf, Given, lent, typeId, constId, name, nameAt, Plan, Silent, Known, Made, Stores, Opens, Closes, planned, signOf, operation, casting, planOf, Midway, instrsBy, after, stepped, bodyFrom, lastFrom, constInstr, constInstrs, givenOf, startOf, instrsOfStrip, stripWords, idLimit, lentOk}
 use Rattle.spirv.proofs.Keys.{keys, kindsOf, kind-among}
 use Rattle.spirv.proofs.Constants.{all-listed}
-use Rattle.spirv.proofs.Listed.{listed-place}
 use Rattle.spirv.proofs.Linked.{next-grows, words-append}
 use Rattle.spirv.proofs.Simulation.{FairFrom}
 use Rattle.spirv.proofs.Shaped.{shaped-fair}
@@ -161,23 +160,20 @@ module _ (table : List ℕ) (bound : ℕ) (es : List Entry) (formed : Each (Form
       omega arith
 
 -- ---- how large
-abbrev pub Fit : List ℕ → Type 0
-Fit ws = Each (λ (w : ℕ). w < 4294967296) ws
+each-append : {A : Type 0} (P : A → Type 0) (xs ys : List A) → Each P xs → Each P ys → Each P (xs ++ ys)
+each-append P [] ys a b = b
+each-append P (x ∷ xs) ys a b = (a .0, each-append P xs ys (a .1) b)
 
-fit-append : (xs ys : List ℕ) → Fit xs → Fit ys → Fit (xs ++ ys)
-fit-append [] ys a b = b
-fit-append (x ∷ xs) ys a b = (a .0, fit-append xs ys (a .1) b)
-
-fit-map : (f : ℕ → ℕ) → ((r : ℕ) → f r < 4294967296) → (rs : List ℕ) → Fit (map f rs)
-fit-map f h [] = tt
-fit-map f h (r ∷ rs) = (h r, fit-map f h rs)
+each-map : (P : ℕ → Type 0) (f : ℕ → ℕ) → ((r : ℕ) → P (f r)) → (rs : List ℕ) → Each P (map f rs)
+each-map P f h [] = tt
+each-map P f h (r ∷ rs) = (h r, each-map P f h rs)
 
 -- the table's opcodes and numbers
-abbrev numbered : Op → ℕ → Bool
+abbrev pub numbered : Op → ℕ → Bool
 numbered (Core n) b = ltb n b
 numbered (Glsl n) b = ltb n b
 
-opcode-fits : (k : ℕ) → numbered (opOf k) 65536 ≡ true
+pub opcode-fits : (k : ℕ) → numbered (opOf k) 65536 ≡ true
 unfolding opOf
 opcode-fits k = go rows refl
   where
@@ -190,112 +186,101 @@ opcode-fits k = go rows refl
     go (r ∷ rs) h = pick r (lookup rs k) (eqb k (r .kind)) (and-left (numbered (r .op) 65536) _ h) (go rs (and-right (numbered (r .op) 65536) _ h))
 
 -- the next id never falls
-last-above : (g : Given) (es : List Entry) (m : Midway) → m .next ≤ lastFrom g m es .next
+pub last-above : (g : Given) (es : List Entry) (m : Midway) → m .next ≤ lastFrom g m es .next
 unfolding lastFrom
 last-above g [] m = omega arith
 last-above g (e ∷ es) m = let a = next-grows m (planOf g (nameAt (m .names)) e) in let b = last-above g es (stepped g m e) in omega (arith, a .0)
 
--- what a plan names
-abbrev PlanFits : Plan → Type 0
-PlanFits Silent = Unit {0}
-PlanFits (Known x) = x .id < 4294967296
-PlanFits (Made op t xs s) = (op < 65536) × ((t < 4294967296) × (Fit xs × (length xs ≤ 6)))
-PlanFits (Stores p v) = (p < 4294967296) × (v < 4294967296)
-PlanFits (Opens c) = c < 4294967296
-PlanFits Closes = Unit {0}
+-- what holds of small numbers, lent ids, listed constants' ids and new ones holds of every operand
+module _ (P : ℕ → Type 0) (small : (w : ℕ) → w < 65536 → P w) where
+  abbrev pub InstrOf : Instr → Type 0
+  InstrOf i = (i .op < 65536) × ((length (i .operands) ≤ 8) × Each P (i .operands))
 
-module _ (g : Given) (lents : (j : ℕ) → lent g j < 4294967296) (consts : (k : Const) → listed (g .constants) k ≡ true → constId g k < 4294967296) where
-  type-fits : (k : ℕ) (s : Bool) → typeId g k s < 4294967296
-  type-fits k s = cond-all (λ (i : ℕ). i < 4294967296) (eqb k 2) _ _ (lents 2) (cond-all (λ (i : ℕ). i < 4294967296) (eqb k 4) _ _ (lents 3) (cond-all (λ (i : ℕ). i < 4294967296) s _ _ (lents 1) (lents 0)))
+  abbrev PlanOf : Plan → Type 0
+  PlanOf Silent = Unit {0}
+  PlanOf (Known x) = P (x .id)
+  PlanOf (Made op t xs s) = (op < 65536) × (P t × (Each P xs × (length xs ≤ 6)))
+  PlanOf (Stores p v) = P p × P v
+  PlanOf (Opens c) = P c
+  PlanOf Closes = Unit {0}
 
-  planned-fits : (k t : ℕ) (xs : List ℕ) (s : Bool) → t < 4294967296 → Fit xs → length xs ≤ 4 → PlanFits (planned (lent g 4) (opOf k) t xs s)
-  unfolding planned
-  planned-fits k t xs s l f n = go (opOf k) (opcode-fits k)
-    where
-      go : (o : Op) → numbered o 65536 ≡ true → PlanFits (planned (lent g 4) o t xs s)
-      go (Core c) p = (ltb-true c 65536 p, (l, (f, omega arith)))
-      go (Glsl c) p = let q = ltb-true c 65536 p in (omega arith, (l, ((lents 4, (omega arith, f)), omega arith)))
+  module _ (g : Given) (lents : (j : ℕ) → P (lent g j)) (consts : (k : Const) → listed (g .constants) k ≡ true → P (constId g k)) where
+    type-fits : (k : ℕ) (s : Bool) → P (typeId g k s)
+    type-fits k s = cond-all P (eqb k 2) _ _ (lents 2) (cond-all P (eqb k 4) _ _ (lents 3) (cond-all P s _ _ (lents 1) (lents 0)))
 
-  module _ (look : ℕ → Name) (names : (r : ℕ) → look r .id < 4294967296) where
-    operation-fits : (k : ℕ) (rs : List ℕ) → length (map (λ r. look r .id) rs) ≤ 4 → PlanFits (operation g look k rs)
-    unfolding operation
-    operation-fits k rs n = planned-fits k _ (map (λ r. look r .id) rs) _ (type-fits (formatOf k .result) (signOf look k rs)) (fit-map (λ r. look r .id) names rs) n
-
-    plan-fits : (e : Entry) → all (listed (g .constants)) (constOf e) ≡ true → PlanFits (planOf g look e)
-    unfolding planOf casting constOf
-    plan-fits (Of.Bare k) h = go (eqb k 2 || eqb k 3) h
+    planned-fits : (k t : ℕ) (xs : List ℕ) (s : Bool) → P t → Each P xs → length xs ≤ 4 → PlanOf (planned (lent g 4) (opOf k) t xs s)
+    unfolding planned
+    planned-fits k t xs s l f n = go (opOf k) (opcode-fits k)
       where
-        go : (b : Bool) → all (listed (g .constants)) (cond b (record { kind = k; bits = 0 } ∷ []) []) ≡ true → PlanFits (cond b (Known (name (constId g (record { kind = k; bits = 0 })) false)) (cond (eqb k 101) Closes Silent))
-        go true h = consts (record { kind = k; bits = 0 }) (and-left (listed (g .constants) (record { kind = k; bits = 0 })) _ h)
-        go false h = cond-all PlanFits (eqb k 101) _ _ tt tt
-    plan-fits (Of.Word w) h = consts (record { kind = 1; bits = w }) (and-left (listed (g .constants) (record { kind = 1; bits = w })) _ h)
-    plan-fits (Of.Cell k n) h = cond-all PlanFits (eqb k 10) _ _ (lents _) (cond-all PlanFits (eqb k 110) _ _ tt (omega arith, (type-fits (formatOf k .result) false, ((lents _, tt), omega arith))))
-    plan-fits (Of.Store k n r) h = (lents _, names r)
-    plan-fits (Of.One k a) h =
-        cond-all PlanFits (eqb k 12) _ _ (omega arith, (type-fits 1 false, ((names a, tt), omega arith)))
-        (cond-all PlanFits (eqb k 100) _ _ (names a)
-        (cond-all PlanFits (eqb k 23 || eqb k 24) _ _ (cond-all PlanFits (xor (eqb k 23) (look a .signed)) _ _ (planned-fits k _ (look a .id ∷ []) _ (type-fits 1 (eqb k 23)) (names a, tt) (omega arith)) (names a))
-        (operation-fits k (a ∷ []) (omega arith))))
-    plan-fits (Of.Two k a b) h = operation-fits k (a ∷ b ∷ []) (omega arith)
-    plan-fits (Of.Three k a b c) h = operation-fits k (a ∷ b ∷ c ∷ []) (omega arith)
-    plan-fits (Of.Four k a b c d) h = cond-all PlanFits (eqb k 11) _ _ (omega arith, (type-fits 4 false, ((names a, (names b, (names c, (names d, tt)))), omega arith))) (operation-fits k (a ∷ b ∷ c ∷ d ∷ []) (omega arith))
+        go : (o : Op) → numbered o 65536 ≡ true → PlanOf (planned (lent g 4) o t xs s)
+        go (Core c) p = (ltb-true c 65536 p, (l, (f, omega arith)))
+        go (Glsl c) p = (omega arith, (l, ((lents 4, (small c (ltb-true c 65536 p), f)), omega arith)))
 
-  -- along the body: the ids that are made lie below the last one's
-  module _ (cs : List ℕ) (limit : ℕ) where
-    record Fits (m : Midway) : Type 0 where
-      pub names : Each (λ (x : Name). x .id < 4294967296) (m .names)
-      pub merge : m .merge < 4294967296
-      pub new : (i : ℕ) → m .next ≤ i → i < limit → i < 4294967296
+    module _ (look : ℕ → Name) (names : (r : ℕ) → P (look r .id)) where
+      operation-fits : (k : ℕ) (rs : List ℕ) → length (map (λ r. look r .id) rs) ≤ 4 → PlanOf (operation g look k rs)
+      unfolding operation
+      operation-fits k rs n = planned-fits k _ (map (λ r. look r .id) rs) _ (type-fits (formatOf k .result) (signOf look k rs)) (each-map P (λ r. look r .id) names rs) n
 
-    name-fits : (ns : List Name) → Each (λ (x : Name). x .id < 4294967296) ns → (r : ℕ) → nameAt ns r .id < 4294967296
-    unfolding nameAt
-    name-fits [] h r = omega arith
-    name-fits (x ∷ ns) h zero = h .0
-    name-fits (x ∷ ns) h (suc r) = name-fits ns (h .1) r
+      plan-fits : (e : Entry) → all (listed (g .constants)) (constOf e) ≡ true → PlanOf (planOf g look e)
+      unfolding planOf casting constOf
+      plan-fits (Of.Bare k) h = go (eqb k 2 || eqb k 3) h
+        where
+          go : (b : Bool) → all (listed (g .constants)) (cond b (record { kind = k; bits = 0 } ∷ []) []) ≡ true → PlanOf (cond b (Known (name (constId g (record { kind = k; bits = 0 })) false)) (cond (eqb k 101) Closes Silent))
+          go true h = consts (record { kind = k; bits = 0 }) (and-left (listed (g .constants) (record { kind = k; bits = 0 })) _ h)
+          go false h = cond-all PlanOf (eqb k 101) _ _ tt tt
+      plan-fits (Of.Word w) h = consts (record { kind = 1; bits = w }) (and-left (listed (g .constants) (record { kind = 1; bits = w })) _ h)
+      plan-fits (Of.Cell k n) h = cond-all PlanOf (eqb k 10) _ _ (lents _) (cond-all PlanOf (eqb k 110) _ _ tt (omega arith, (type-fits (formatOf k .result) false, ((lents _, tt), omega arith))))
+      plan-fits (Of.Store k n r) h = (lents _, names r)
+      plan-fits (Of.One k a) h =
+          cond-all PlanOf (eqb k 12) _ _ (omega arith, (type-fits 1 false, ((names a, tt), omega arith)))
+          (cond-all PlanOf (eqb k 100) _ _ (names a)
+          (cond-all PlanOf (eqb k 23 || eqb k 24) _ _ (cond-all PlanOf (xor (eqb k 23) (look a .signed)) _ _ (planned-fits k _ (look a .id ∷ []) _ (type-fits 1 (eqb k 23)) (names a, tt) (omega arith)) (names a))
+          (operation-fits k (a ∷ []) (omega arith))))
+      plan-fits (Of.Two k a b) h = operation-fits k (a ∷ b ∷ []) (omega arith)
+      plan-fits (Of.Three k a b c) h = operation-fits k (a ∷ b ∷ c ∷ []) (omega arith)
+      plan-fits (Of.Four k a b c d) h = cond-all PlanOf (eqb k 11) _ _ (omega arith, (type-fits 4 false, ((names a, (names b, (names c, (names d, tt)))), omega arith))) (operation-fits k (a ∷ b ∷ c ∷ d ∷ []) (omega arith))
 
-    one-more : (ns : List Name) (x : Name) → Each (λ (y : Name). y .id < 4294967296) ns → x .id < 4294967296 → Each (λ (y : Name). y .id < 4294967296) (ns ++ (x ∷ []))
-    one-more [] x h l = (l, tt)
-    one-more (n ∷ ns) x h l = (h .0, one-more ns x (h .1) l)
+    -- along the body: the ids that are made lie below the last one's
+    module _ (cs : List ℕ) (limit : ℕ) where
+      pub record Fits (m : Midway) : Type 0 where
+        pub names : Each (λ (x : Name). P (x .id)) (m .names)
+        pub merge : P (m .merge)
+        pub new : (i : ℕ) → m .next ≤ i → i < limit → P i
 
-    plan-words : (m : Midway) (p : Plan) → Fits m → PlanFits p → after m p .next ≤ limit → Fit (allWords (instrsBy m p)) × Fits (after m p)
-    unfolding instrsBy allWords wordsOf after
-    plan-words m Silent f h l = (tt, f)
-    plan-words m (Known x) f h l = (tt, record { names = one-more (m .names) x (f .names) h; merge = f .merge; new = f .new })
-    plan-words m (Made op t xs s) f h l =
-        let a : op < 65536 = h .0 in
-        let b : length xs ≤ 6 = h .1 .1 .1 in
-        let id = f .new (m .next) (omega arith) (omega arith) in
-        ((omega arith, (h .1 .0, (id, fit-append xs [] (h .1 .1 .0) tt))), record { names = one-more (m .names) (name (m .next) s) (f .names) id; merge = f .merge; new = λ i u v. f .new i (omega arith) v })
-    plan-words m (Stores p v) f h l = ((omega arith, (h .0, (h .1, tt))), f)
-    plan-words m (Opens c) f h l =
-        let block = f .new (m .next) (omega arith) (omega arith) in
-        let merge = f .new (suc (m .next)) (omega arith) (omega arith) in
-        ((omega arith, (merge, (omega arith, (omega arith, (h, (block, (merge, (omega arith, (block, tt))))))))), record { names = f .names; merge = merge; new = λ i u v. f .new i (omega arith) v })
-    plan-words m Closes f h l = ((omega arith, (f .merge, (omega arith, (f .merge, tt)))), f)
+      name-fits : (ns : List Name) → Each (λ (x : Name). P (x .id)) ns → (r : ℕ) → P (nameAt ns r .id)
+      unfolding nameAt
+      name-fits [] h r = small 0 (omega arith)
+      name-fits (x ∷ ns) h zero = h .0
+      name-fits (x ∷ ns) h (suc r) = name-fits ns (h .1) r
 
-    body-fits : (es : List Entry) (before : List ℕ) (m : Midway) → FairFrom g cs before es → Fits m → lastFrom g m es .next ≤ limit → Fit (allWords (bodyFrom g m es))
-    unfolding bodyFrom lastFrom allWords
-    body-fits [] before m f h l = tt
-    body-fits (e ∷ es) before m f h l =
-        let p : Plan = planOf g (nameAt (m .names)) e in
-        let up = last-above g es (stepped g m e) in
-        let w = plan-words m p h (plan-fits (nameAt (m .names)) (name-fits (m .names) (h .names)) e (f .0 .consts)) (omega arith) in
-        rw (words-append (instrsBy m p) (bodyFrom g (stepped g m e) es)) (fit-append (allWords (instrsBy m p)) (allWords (bodyFrom g (stepped g m e) es)) (w .0) (body-fits es (before ++ makes e) (stepped g m e) (f .1) (w .1) l))
+      one-more : (ns : List Name) (x : Name) → Each (λ (y : Name). P (y .id)) ns → P (x .id) → Each (λ (y : Name). P (y .id)) (ns ++ (x ∷ []))
+      one-more ns x h l = each-append (λ (y : Name). P (y .id)) ns (x ∷ []) h (l, tt)
 
-  -- the list of constants
-  consts-fit : (ks : List Const) (i : ℕ) → ((j : ℕ) → i ≤ j → j < i + length ks → j < 4294967296) → Each (λ (k : Const). k .bits < 4294967296) ks → Fit (allWords (constInstrs g i ks))
-  unfolding constInstrs allWords wordsOf
-  consts-fit [] i h b = tt
-  consts-fit (k ∷ ks) i h b =
-      fit-append (wordsOf (constInstr g i k)) (allWords (constInstrs g (suc i) ks)) (one (eqb (k .kind) 1) (eqb (k .kind) 2)) (consts-fit ks (suc i) (λ j u v. h j (omega arith) (omega arith)) (b .1))
-    where
-      id : i < 4294967296
-      id = h i (omega arith) (omega arith)
+      plan-instrs : (m : Midway) (p : Plan) → Fits m → PlanOf p → after m p .next ≤ limit → Each InstrOf (instrsBy m p) × Fits (after m p)
+      unfolding instrsBy after
+      plan-instrs m Silent f h l = (tt, f)
+      plan-instrs m (Known x) f h l = (tt, record { names = one-more (m .names) x (f .names) h; merge = f .merge; new = f .new })
+      plan-instrs m (Made op t xs s) f h l =
+          let b : length xs ≤ 6 = h .1 .1 .1 in
+          let id = f .new (m .next) (omega arith) (omega arith) in
+          (((h .0, (omega arith, (h .1 .0, (id, h .1 .1 .0)))), tt), record { names = one-more (m .names) (name (m .next) s) (f .names) id; merge = f .merge; new = λ i u v. f .new i (omega arith) v })
+      plan-instrs m (Stores p v) f h l = (((omega arith, (omega arith, (h .0, (h .1, tt)))), tt), f)
+      plan-instrs m (Opens c) f h l =
+          let block = f .new (m .next) (omega arith) (omega arith) in
+          let merge = f .new (suc (m .next)) (omega arith) (omega arith) in (
+            ((omega arith, (omega arith, (merge, (small 0 (omega arith), tt)))), ((omega arith, (omega arith, (h, (block, (merge, tt))))), ((omega arith, (omega arith, (block, tt))), tt))),
+            record { names = f .names; merge = merge; new = λ i u v. f .new i (omega arith) v },
+          )
+      plan-instrs m Closes f h l = (((omega arith, (omega arith, (f .merge, tt))), ((omega arith, (omega arith, (f .merge, tt))), tt)), f)
 
-      one : (a b : Bool) → Fit (wordsOf (cond a (instr 43 (lent g 0 ∷ i ∷ k .bits ∷ [])) (cond b (instr 41 (lent g 2 ∷ i ∷ [])) (instr 42 (lent g 2 ∷ i ∷ [])))))
-      one true c = (omega arith, (lents 0, (id, (b .0, tt))))
-      one false true = (omega arith, (lents 2, (id, tt)))
-      one false false = (omega arith, (lents 2, (id, tt)))
+      pub body-fits : (es : List Entry) (before : List ℕ) (m : Midway) → FairFrom g cs before es → Fits m → lastFrom g m es .next ≤ limit → Each InstrOf (bodyFrom g m es)
+      unfolding bodyFrom lastFrom
+      body-fits [] before m f h l = tt
+      body-fits (e ∷ es) before m f h l =
+          let p : Plan = planOf g (nameAt (m .names)) e in
+          let up = last-above g es (stepped g m e) in
+          let w = plan-instrs m p h (plan-fits (nameAt (m .names)) (name-fits (m .names) (h .names)) e (f .0 .consts)) (omega arith) in
+          each-append InstrOf (instrsBy m p) (bodyFrom g (stepped g m e) es) (w .0) (body-fits es (before ++ makes e) (stepped g m e) (f .1) (w .1) l)
 
 -- the bits of a strip's constants
 abbrev BitsFit : List Const → Type 0
@@ -304,15 +289,7 @@ BitsFit ks = Each (λ (k : Const). k .bits < 4294967296) ks
 bits-new : (ks l : List Const) → BitsFit l → BitsFit ks → BitsFit (withNew l ks)
 unfolding withNew
 bits-new [] l a b = a
-bits-new (k ∷ ks) l a b = bits-new ks (cond (listed l k) l (l ++ (k ∷ []))) (go (listed l k)) (b .1)
-  where
-    snoc : (l : List Const) → BitsFit l → BitsFit (l ++ (k ∷ []))
-    snoc [] h = (b .0, tt)
-    snoc (x ∷ l) h = (h .0, snoc l (h .1))
-
-    go : (t : Bool) → BitsFit (cond t l (l ++ (k ∷ [])))
-    go true = a
-    go false = snoc l a
+bits-new (k ∷ ks) l a b = bits-new ks (cond (listed l k) l (l ++ (k ∷ []))) (cond-all BitsFit (listed l k) _ _ a (each-append (λ (k : Const). k .bits < 4294967296) l (k ∷ []) a (b .0, tt))) (b .1)
 
 entry-bits : (e : Entry) → Bounded e → BitsFit (constOf e)
 unfolding constOf
@@ -330,39 +307,27 @@ unfolding constantsFrom
 strip-bits [] l f h = h
 strip-bits (e ∷ es) l f h = strip-bits es (withNew l (constOf e)) (f .1) (bits-new (constOf e) l h (entry-bits e (f .0 .bounded)))
 
+-- the words of the list of constants fit 32 bits where lent and new ids do
+consts-fit : (g : Given) → ((j : ℕ) → lent g j < 4294967296) → (ks : List Const) (i : ℕ) → ((j : ℕ) → i ≤ j → j < i + length ks → j < 4294967296) → BitsFit ks → Each (λ (w : ℕ). w < 4294967296) (allWords (constInstrs g i ks))
+unfolding constInstrs allWords wordsOf
+consts-fit g lents [] i h b = tt
+consts-fit g lents (k ∷ ks) i h b =
+    each-append (λ (w : ℕ). w < 4294967296) (wordsOf (constInstr g i k)) (allWords (constInstrs g (suc i) ks)) (one (eqb (k .kind) 1) (eqb (k .kind) 2)) (consts-fit g lents ks (suc i) (λ j u v. h j (omega arith) (omega arith)) (b .1))
+  where
+    id : i < 4294967296
+    id = h i (omega arith) (omega arith)
+
+    one : (a b : Bool) → Each (λ (w : ℕ). w < 4294967296) (wordsOf (cond a (instr 43 (lent g 0 ∷ i ∷ k .bits ∷ [])) (cond b (instr 41 (lent g 2 ∷ i ∷ [])) (instr 42 (lent g 2 ∷ i ∷ [])))))
+    one true c = (omega arith, (lents 0, (id, (b .0, tt))))
+    one false true = (omega arith, (lents 2, (id, tt)))
+    one false false = (omega arith, (lents 2, (id, tt)))
+
+pub strip-consts-fit : (g : Given) → ((j : ℕ) → lent g j < 4294967296) → (es : List Entry) → Each (Formed wide) es → (i : ℕ) → ((j : ℕ) → i ≤ j → j < i + length (constantsOf es) → j < 4294967296) → Each (λ (w : ℕ). w < 4294967296) (allWords (constInstrs g i (constantsOf es)))
+strip-consts-fit g lents es formed i h = consts-fit g lents (constantsOf es) i h (strip-bits es [] formed tt)
+
 -- the lent ids
-lents-fit : (table : List ℕ) (bound : ℕ) → all (lentOk bound) table ≡ true → (j : ℕ) → getD table j 0 < 4294967296
+pub lents-low : (table : List ℕ) (bound : ℕ) → all (lentOk bound) table ≡ true → (j : ℕ) → getD table j 0 ≤ idLimit
 unfolding lentOk
-lents-fit [] bound h j = omega arith
-lents-fit (x ∷ xs) bound h zero = let l = leb-true x idLimit (and-right (ltb x bound) _ (and-right (not (eqb x 0)) _ (and-left (lentOk bound x) _ h))) in omega arith
-lents-fit (x ∷ xs) bound h (suc j) = lents-fit xs bound (and-right (lentOk bound x) _ h) j
-
-module _ (table : List ℕ) (bound : ℕ) (es : List Entry) (formed : Each (Formed wide) es) (ok : stripOk es ≡ true) (lents : tableOk table bound ≡ true) (ids : idsOk table bound es ≡ true) where
-  -- an id that is made
-  new-fits : (i : ℕ) → bound ≤ i → i < nextId table bound es → i < 4294967296
-  unfolding idsOk
-  new-fits i u v = go (leb (nextId table bound es) (suc idLimit)) refl ids
-    where
-      go : (b : Bool) → leb (nextId table bound es) (suc idLimit) ≡ b → b || eqb (nextId table bound es) bound ≡ true → i < 4294967296
-      go true p h = let l = leb-true (nextId table bound es) (suc idLimit) p in omega arith
-      go false p h = let e = eqb-true (nextId table bound es) bound h in absurd (omega arith)
-
-  listed-fit : (k : Const) → listed (constantsOf es) k ≡ true → bound + placeOf (constantsOf es) k < 4294967296
-  unfolding nextId givenOf
-  listed-fit k h =
-      let g : Given = givenOf table bound es in
-      let up = last-above g es (startOf g) in
-      let low = ltb-true (placeOf (constantsOf es) k) (length (constantsOf es)) (sym (listed-place (constantsOf es) k) ∙ h) in
-      new-fits (bound + placeOf (constantsOf es) k) (omega arith) (omega arith)
-
-  pub strip-fits : Fit (stripWords table bound es)
-  unfolding stripWords instrsOfStrip givenOf nextId tableOk constId
-  strip-fits =
-      let g : Given = givenOf table bound es in
-      let ks : List Const = constantsOf es in
-      let all-in = lents-fit table bound (and-left (all (lentOk bound) table) _ (and-right (eqb (length table) 303) _ lents)) in
-      let up = last-above g es (startOf g) in
-      rw (words-append (constInstrs g bound ks) (bodyFrom g (startOf g) es))
-      (fit-append (allWords (constInstrs g bound ks)) (allWords (bodyFrom g (startOf g) es))
-      (consts-fit g all-in listed-fit ks bound (λ j u v. new-fits j u (omega arith)) (strip-bits es [] formed tt))
-      (body-fits g all-in listed-fit [] (nextId table bound es) es [] (startOf g) (shaped-fair g [] es formed ok (all-listed es)) (record { names = tt; merge = omega arith; new = λ i u v. new-fits i (omega arith) v }) (omega arith)))
+lents-low [] bound h j = omega arith
+lents-low (x ∷ xs) bound h zero = leb-true x idLimit (and-right (ltb x bound) _ (and-right (not (eqb x 0)) _ (and-left (lentOk bound x) _ h)))
+lents-low (x ∷ xs) bound h (suc j) = lents-low xs bound (and-right (lentOk bound x) _ h) j

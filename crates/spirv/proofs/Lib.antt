@@ -23,7 +23,10 @@ pub mod Plans
 pub mod Listed
 pub mod Tables
 pub mod Surveys
-pub mod Bodies
 pub mod Linked
 pub mod Bounds
+pub mod Moved
+pub mod Partial
+pub mod OnePass
+pub mod Bodies
 pub mod Answers

@@ -1,8 +1,7 @@
 -- What the code's second pass comes to, entry after entry: the words of the strip's body, its next id, and whether it clashes.
 use mathlib.Core.Path.{_≡_, refl, ap, ap₂, _∙_, sym}
 use mathlib.Core.List.{List, [], _∷_, _++_, map, append-assoc, append-nil}
-use mathlib.Core.Option.{Option, none, some}
-use mathlib.Core.Bool.{Bool, true, false, cond, not, _&&_, _||_, xor, false≢true, true≢false}
+use mathlib.Core.Bool.{Bool, true, false, cond, not, _&&_, _||_, false≢true, true≢false}
 use Prim.Native.Nat.{ℕ, zero, suc, _+_, _*_, _%_, _^_, _≤_, _<_}
 use native.Mathlib.Omega.{arith}
 use lib.ListN.{length, getD, set, length-set}
@@ -11,26 +10,24 @@ use lib.Dec.{ltb, eqb}
 use borrow.Author.Tests.{ltb-true, eqb-true, eqb-false}
 use Rattle.strip.specs.declared.reader.Entry.{Entry}
 use Rattle.strip.specs.declared.reader.Entry.the-variants as Of
-use Rattle.strip.specs.declared.reader.Read.{Read}
-use Rattle.strip.specs.declared.reader.Read.the-variants.{Found, Stop}
 use Rattle.strip.specs.Format.{formatOf}
 use Rattle.strip.specs.Entry.{kindOf, refsOf}
-use Rattle.strip.specs.Shape.{all, isEnd, makes, cutAtEnds}
+use Rattle.strip.specs.Shape.{all, makes}
 use Rattle.strip.proofs.Tests.{and-left, and-right}
 use Rattle.spirv.specs.declared.plan.Name.{Name}
 use Rattle.spirv.specs.Opcodes.{opOf}
 use Rattle.spirv.specs.Instr.{Instr, wordsOf, allWords}
 use Rattle.spirv.specs.Writer.{Given, lent, typeId, name, nameAt, Plan, Silent, Known, Made, Stores, Opens, Closes, planned, firstSign, signOf, operation, casting, planOf, Midway, midway, instrsBy, after, stepped, bodyFrom, lastFrom, clashes, clashFrom}
-use Rattle.spirv.specs.Page.{lookOf, Tape, puts, Page, named, laid, wrote, clashed, entered, enteredFrom}
+use Rattle.spirv.specs.Page.{lookOf, Tape, puts, Page, named, laid, wrote, clashed, entered}
 use Rattle.spirv.proofs.Tapes.{puts-then}
 use Rattle.spirv.proofs.Typing.{named-there}
 use Rattle.spirv.proofs.Naming.{naming, Names, plan-names}
+use Rattle.spirv.proofs.Entries.{Fair}
 use Rattle.spirv.proofs.Simulation.{FairFrom}
-use Rattle.spirv.proofs.Surveys.{cut-none, only-end, only-more}
 
 -- ---- a plan, and 17, look only at the entry's references
 module _ (look look′ : ℕ → Name) where
-  abbrev Same : List ℕ → Type 0
+  abbrev pub Same : List ℕ → Type 0
   Same [] = Unit {0}
   Same (r ∷ rs) = (look r ≡ look′ r) × Same rs
 
@@ -49,7 +46,7 @@ module _ (look look′ : ℕ → Name) where
   operation-same g k rs h =
       ap₂ (λ (s : Bool) (xs : List ℕ). planned (lent g 4) (opOf k) (typeId g (formatOf k .result) s) xs s) (ap (λ (s : Bool). eqb (formatOf k .result) 1 && s) (first-same (formatOf k .operands) rs h)) (ids-same rs h)
 
-  plan-same : (g : Given) (e : Entry) → Same (refsOf e) → planOf g look e ≡ planOf g look′ e
+  pub plan-same : (g : Given) (e : Entry) → Same (refsOf e) → planOf g look e ≡ planOf g look′ e
   unfolding planOf refsOf casting
   plan-same g (Of.Bare k) h = refl
   plan-same g (Of.Word w) h = refl
@@ -60,7 +57,7 @@ module _ (look look′ : ℕ → Name) where
   plan-same g (Of.Three k a b c) h = operation-same g k (a ∷ b ∷ c ∷ []) h
   plan-same g (Of.Four k a b c d) h = rw (operation-same g k (a ∷ b ∷ c ∷ d ∷ []) h, h .0, h .1 .0, h .1 .1 .0, h .1 .1 .1 .0)
 
-  clash-same : (g : Given) (e : Entry) → Same (refsOf e) → clashes g look e ≡ clashes g look′ e
+  pub clash-same : (g : Given) (e : Entry) → Same (refsOf e) → clashes g look e ≡ clashes g look′ e
   unfolding clashes refsOf
   clash-same g (Of.Bare k) h = refl
   clash-same g (Of.Word w) h = refl
@@ -205,8 +202,19 @@ clashed-met p true false h = h
 clashed-met p false true h = refl
 clashed-met p false false h = h
 
+-- an entry's references are known alike on both sides, and it leads to the same place
+pub refs-same : (g : Given) (before : List ℕ) (m : Midway) (p : Page) → Like m p → length (m .names) ≡ length before → (e : Entry) → Fair g before e → Same (lookOf (p .ids) (p .signs)) (nameAt (m .names)) (refsOf e)
+refs-same g before m p k l e f =
+    same-below (lookOf (p .ids) (p .signs)) (nameAt (m .names)) (length (m .names)) (k .names) (refsOf e) (named-there before (length (m .names)) (sym l) (formatOf (kindOf e) .operands) (refsOf e) (f .refs))
+
+pub entry-like : (g : Given) (m : Midway) (p : Page) → Like m p → length (m .names) < 64 → m .next + 2 < 2 ^ 64 → (e : Entry) → Same (lookOf (p .ids) (p .signs)) (nameAt (m .names)) (refsOf e) → Like (stepped g m e) (entered g p e)
+unfolding entered
+entry-like g m p k s h e refs =
+    rw (plan-same (lookOf (p .ids) (p .signs)) (nameAt (m .names)) g e refs)
+    (clashed-like (after m (planOf g (nameAt (m .names)) e)) (wrote p (planOf g (nameAt (m .names)) e)) (clashes g (lookOf (p .ids) (p .signs)) e) (wrote-like m p k s h (planOf g (nameAt (m .names)) e)))
+
 -- ---- as many names as the shape test counts values
-names-grow : (m : Midway) (plan : Plan) (k : ℕ) (before : List ℕ) → Names k plan → length (m .names) ≡ length before → length (after m plan .names) ≡ length (before ++ cond (eqb (formatOf k .result) 0) [] (formatOf k .result ∷ []))
+pub names-grow : (m : Midway) (plan : Plan) (k : ℕ) (before : List ℕ) → Names k plan → length (m .names) ≡ length before → length (after m plan .names) ≡ length (before ++ cond (eqb (formatOf k .result) 0) [] (formatOf k .result ∷ []))
 unfolding after naming
 names-grow m plan k before h l = go plan (eqb (formatOf k .result) 0) h
   where
@@ -243,7 +251,7 @@ next-grows m (Stores p v) = (omega arith, omega arith)
 next-grows m (Opens c) = (omega arith, omega arith)
 next-grows m Closes = (omega arith, omega arith)
 
-names-le : (m : Midway) (plan : Plan) → length (after m plan .names) ≤ suc (length (m .names))
+pub names-le : (m : Midway) (plan : Plan) → length (after m plan .names) ≤ suc (length (m .names))
 unfolding after
 names-le m Silent = omega arith
 names-le m (Known x) = let h = length-snoc (m .names) x in omega arith
@@ -304,14 +312,3 @@ module _ (g : Given) where
             ∙ ap (λ (b : Bool). b || clashFrom g (after m plan) es) (clashed-met (wrote p plan) (p .clash) bad (wrote-clash m p k room (omega arith) plan))
             ∙ or-assoc (p .clash) bad (clashFrom g (after m plan) es);
       }
-
-  -- from what is read to the entries of the only strip
-  pub reads-entries : (rs : List Read) (es : List Entry) → cutAtEnds rs ≡ some (es ∷ []) → (p : Page) → enteredFrom g p rs ≡ enteredAll p es
-  unfolding enteredFrom enteredAll cutAtEnds
-  reads-entries [] es h p = let z : _≡_ {A = ℕ} 0 1 = cc in absurd (omega arith)
-  reads-entries (Stop ∷ rs) es h p = let z : _≡_ {A = ℕ} 0 1 = cc in absurd (omega arith)
-  reads-entries (Found e n ∷ rs) es h p = go (reads-entries rs) (isEnd e) refl
-    where
-      go : ((es : List Entry) → cutAtEnds rs ≡ some (es ∷ []) → (p : Page) → enteredFrom g p rs ≡ enteredAll p es) → (b : Bool) → isEnd e ≡ b → enteredFrom g (entered g p e) rs ≡ enteredAll p es
-      go ih true x = let o = only-end e es (cutAtEnds rs) x h in ap (enteredFrom g (entered g p e)) (cut-none rs (o .0)) ∙ ap (enteredAll p) (sym (o .1))
-      go ih false x = let o = only-more e es (cutAtEnds rs) x h in ih (o .0) (o .1) (entered g p e) ∙ ap (enteredAll p) (sym (o .2))

@@ -1,8 +1,8 @@
 -- The list of constants as keys in an array.
 use mathlib.Core.Path.{_≡_, refl, ap, ap₂, _∙_, sym}
 use mathlib.Core.List.{List, [], _∷_, _++_}
-use mathlib.Core.Bool.{Bool, true, false, cond, _&&_, _||_, false≢true, true≢false}
-use Prim.Native.Nat.{ℕ, zero, suc, _+_, _-_, _*_, _/_, _%_, _≤_, _<_}
+use mathlib.Core.Bool.{Bool, true, false, cond, _&&_, _||_, true≢false}
+use Prim.Native.Nat.{ℕ, zero, suc, _+_, _-_, _/_, _%_, _≤_, _<_}
 use native.Mathlib.Omega.{arith}
 use lib.ListN.{length, getD, set, length-set}
 use lib.Seq.{getD-set-same, getD-set-other}
@@ -10,7 +10,7 @@ use lib.Dec.{ltb, eqb}
 use borrow.Author.Tests.{eqb-true, eqb-false, eq-eqb, ne-eqb, lt-ltb, le-ltb, ltb-true, ltb-false}
 use Rattle.strip.proofs.Tests.{and-left, and-right}
 use Rattle.spirv.specs.Writer.{Const, const, same, listed, placeOf, withNew}
-use Rattle.spirv.specs.Page.{constAt, constsFrom, constsIn, Lists}
+use Rattle.spirv.specs.Page.{constAt, constsFrom, constsIn, Lists, Placed}
 
 -- keys are equal where the constants are
 same-key : (x y : ℕ) → same (constAt x) (constAt y) ≡ eqb x y
@@ -61,7 +61,7 @@ module _ (keys : List ℕ) (n key : ℕ) where
       rw m (omega arith)
 
 -- ---- listed or not
-ltb-suc : (a b : ℕ) → ltb a b ≡ ltb (suc a) (suc b)
+pub ltb-suc : (a b : ℕ) → ltb a b ≡ ltb (suc a) (suc b)
 ltb-suc a b = go (ltb a b) refl
   where
     go : (t : Bool) → ltb a b ≡ t → t ≡ ltb (suc a) (suc b)
@@ -76,6 +76,16 @@ listed-place (c ∷ ks) k = go (same c k) (listed-place ks k)
     go : (b : Bool) → listed ks k ≡ ltb (placeOf ks k) (length ks) → b || listed ks k ≡ ltb (cond b 0 (suc (placeOf ks k))) (suc (length ks))
     go true ih = sym (lt-ltb 0 (suc (length ks)) (omega arith))
     go false ih = ih ∙ ltb-suc (placeOf ks k) (length ks)
+
+-- a constant that is not listed stands last when it is
+place-last : (ks : List Const) (k : Const) → listed ks k ≡ false → placeOf (ks ++ (k ∷ [])) k ≡ length ks
+unfolding listed placeOf
+place-last [] k h = rw (eq-eqb (k .kind) (k .kind) refl, eq-eqb (k .bits) (k .bits) refl)
+place-last (c ∷ ks) k h = go (same c k) h (place-last ks k)
+  where
+    go : (b : Bool) → b || listed ks k ≡ false → (listed ks k ≡ false → placeOf (ks ++ (k ∷ [])) k ≡ length ks) → cond b 0 (suc (placeOf (ks ++ (k ∷ [])) k)) ≡ suc (length ks)
+    go true h ih = absurd (true≢false h)
+    go false h ih = ap suc (ih h)
 
 pub consts-length : (keys : List ℕ) (n i : ℕ) → length (constsFrom keys i n) ≡ n
 unfolding constsFrom
@@ -98,31 +108,34 @@ consts-snoc keys (suc n) i =
 
 module _ (keys : List ℕ) (n : ℕ) (full : length keys ≡ 64) where
   -- nothing is new
-  pub listed-none : Lists keys n [] keys n
+  pub listed-none : Lists keys n [] keys n × Placed keys n [] 0
   unfolding withNew
-  listed-none = record { list = refl; most = omega arith; kept = full }
+  listed-none = (record { list = refl; most = omega arith; kept = full }, (omega arith, tt))
 
   module _ (key : ℕ) where
-    pub listed-stays : placeOf (constsIn keys n) (constAt key) < n → Lists keys n (constAt key ∷ []) keys n
+    pub listed-stays : (i : ℕ) → i ≡ placeOf (constsIn keys n) (constAt key) → i < n → Lists keys n (constAt key ∷ []) keys n × Placed keys n (constAt key ∷ []) i
     unfolding withNew
-    listed-stays l =
+    listed-stays i is l =
         let m = consts-length keys n 0 in
         let h : listed (constsIn keys n) (constAt key) ≡ true = listed-place (constsIn keys n) (constAt key) ∙ lt-ltb (placeOf (constsIn keys n) (constAt key)) (length (constsIn keys n)) (omega arith) in
-        record { list = rw h; most = omega arith; kept = full }
+        (record { list = rw h; most = omega arith; kept = full }, (omega arith, (is, tt)))
 
-    pub listed-grows : n < 64 → n ≤ placeOf (constsIn keys n) (constAt key) → Lists keys n (constAt key ∷ []) (set keys n key) (n + 1)
-    unfolding withNew
-    listed-grows r l =
-        let m = consts-length keys n 0 in
-        let h : listed (constsIn keys n) (constAt key) ≡ false = listed-place (constsIn keys n) (constAt key) ∙ le-ltb (placeOf (constsIn keys n) (constAt key)) (length (constsIn keys n)) (omega arith) in
+    -- a new one stands last
+    grown : n < 64 → constsIn (set keys n key) (n + 1) ≡ constsIn keys n ++ (constAt key ∷ [])
+    grown r =
         let zero-on : 0 + n ≡ n = omega arith in
         let new : constAt (getD (set keys n key) (0 + n) 0) ≡ constAt key = rw zero-on (ap constAt (getD-set-same keys n key 0 (omega arith))) in
         let up : n + 1 ≡ suc n = omega arith in
-        record {
-          list = rw (h, up) (consts-snoc (set keys n key) n 0 ∙ ap₂ (λ (cs : List Const) (c : Const). cs ++ (c ∷ [])) (consts-set keys key n 0 n (omega arith)) new);
-          most = omega arith;
-          kept = length-set keys n key ∙ full;
-        }
+        rw up (consts-snoc (set keys n key) n 0 ∙ ap₂ (λ (cs : List Const) (c : Const). cs ++ (c ∷ [])) (consts-set keys key n 0 n (omega arith)) new)
+
+    pub listed-grows : n < 64 → n ≤ placeOf (constsIn keys n) (constAt key) → Lists keys n (constAt key ∷ []) (set keys n key) (n + 1) × Placed (set keys n key) (n + 1) (constAt key ∷ []) n
+    unfolding withNew
+    listed-grows r l =
+        let m = consts-length keys n 0 in
+        let h : listed (constsIn keys n) (constAt key) ≡ false = listed-place (constsIn keys n) (constAt key) ∙ le-ltb (placeOf (constsIn keys n) (constAt key)) (length (constsIn keys n)) (omega arith) in (
+          record { list = rw h (grown r); most = omega arith; kept = length-set keys n key ∙ full },
+          (omega arith, (sym m ∙ sym (place-last (constsIn keys n) (constAt key) h) ∙ ap (λ (ks : List Const). placeOf ks (constAt key)) (sym (grown r)), tt)),
+        )
 
 -- ---- the constant 0
 module _ (keys : List ℕ) (n bound id i : ℕ) (is : i ≡ placeOf (constsIn keys n) (const 1 0)) where

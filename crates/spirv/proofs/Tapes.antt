@@ -1,15 +1,15 @@
 -- The buffer of words: words after words, and the words of an instruction.
 use mathlib.Core.Path.{_≡_, refl, ap, _∙_, sym}
-use mathlib.Core.List.{List, [], _∷_, _++_, append-nil}
+use mathlib.Core.List.{List, [], _∷_, _++_, map, append-nil}
 use mathlib.Core.Bool.{Bool, true, false, cond}
-use Prim.Native.Nat.{ℕ, suc, _+_, _-_, _*_, _%_, _^_, _≤_, _<_}
+use Prim.Native.Nat.{ℕ, zero, suc, _+_, _-_, _%_, _^_, _≤_, _<_}
 use native.Mathlib.Omega.{arith}
-use lib.ListN.{length, getD, set, take, drop, length-set, drop-of-length-le}
-use lib.Seq.{sets, sets-eq, drop-cons, getD-take, length-take-le}
+use lib.ListN.{length, getD, set, take, drop, length-set, length-drop, drop-of-length-le}
+use lib.Seq.{sets, drop-cons, getD-take, getD-drop, length-take-le}
 use lib.Dec.{eqb}
 use Rattle.spirv.specs.Instr.{instr, wordsOf, allWords}
-use Rattle.spirv.specs.Writer.{Const, Given, lent, constInstr, constInstrs, name, Made, Stores, Opens, Closes, midway, instrsBy}
-use Rattle.spirv.specs.Page.{constAt, constsFrom, constsIn, constWords, Tape, tape, putOne, puts, Page, named, laid, wrote}
+use Rattle.spirv.specs.Writer.{Const, Given, lent, constInstr, constInstrs, name, Made, Stores, Opens, Closes, instrsBy}
+use Rattle.spirv.specs.Page.{constAt, constsFrom, constsIn, constWords, part, settled, Tape, putOne, puts, Page, named, laid, wrote}
 
 pub puts-then : (t : Tape) (xs ys : List ℕ) → puts (puts t xs) ys ≡ puts t (xs ++ ys)
 unfolding puts
@@ -95,24 +95,44 @@ module _ (g : Given) (keys : List ℕ) (n : ℕ) where
   consts-end bound i l t whole h = let m : n - i ≡ 0 = omega arith in rw m at h
 
 -- ---- the words are copied
-module _ (buf out₀ : List ℕ) (n : ℕ) (full : length buf ≡ 512) (fits : n ≤ length out₀) (most : n ≤ 512) where
+
+-- the words ws go to place at on: those from the i-th on are left
+module _ (ws out₀ : List ℕ) (at n : ℕ) (long : length ws ≡ n) where
   abbrev pub Copied : List ℕ → ℕ → Type 0
-  Copied out i = (length out ≡ length out₀) × (sets out i (drop i (take n buf)) ≡ sets out₀ 0 (take n buf))
+  Copied out i = (length out ≡ length out₀) × (sets out (at + i) (drop i ws) ≡ sets out₀ at ws)
 
-  taken : length (take n buf) ≡ n
-  taken = length-take-le n buf (omega arith)
+  pub copy-begin : Copied out₀ 0
+  copy-begin = let z : at + 0 ≡ at = omega arith in (refl, rw z)
 
-  pub copy-next : (out : List ℕ) (i : ℕ) → i < n → Copied out i → Copied (set out i (getD buf i 0)) (i + 1)
-  copy-next out i l h =
-      let k = taken in
+  pub copy-next : (out : List ℕ) (i x : ℕ) → i < n → x ≡ getD ws i 0 → Copied out i → Copied (set out (at + i) x) (i + 1)
+  copy-next out i x l p h =
       let up : i + 1 ≡ suc i = omega arith in
-      let at : drop i (take n buf) ≡ getD buf i 0 ∷ drop (suc i) (take n buf) = drop-cons (take n buf) i 0 (omega arith) ∙ ap (λ (x : ℕ). x ∷ drop (suc i) (take n buf)) (getD-take n buf i 0 l) in
-      (length-set out i (getD buf i 0) ∙ h .0, rw up (rw at at (h .1)))
+      let on : at + suc i ≡ suc (at + i) = omega arith in
+      let there : drop i ws ≡ getD ws i 0 ∷ drop (suc i) ws = drop-cons ws i 0 (omega arith) in
+      (length-set out (at + i) x ∙ h .0, rw (up, on, p) (rw there at (h .1)))
 
-  pub copy-end : (out : List ℕ) (i : ℕ) → n ≤ i → Copied out i → out ≡ take n buf ++ drop n out₀
+  pub copy-end : (out : List ℕ) (i : ℕ) → n ≤ i → Copied out i → out ≡ sets out₀ at ws
   copy-end out i l h =
-      let k = taken in
-      let past : length (take n buf) ≤ i = omega arith in
-      let end : 0 + length (take n buf) ≡ n = omega arith in
-      let none : drop i (take n buf) ≡ [] = drop-of-length-le (take n buf) past in
-      (rw none at (h .1)) ∙ sets-eq (take n buf) out₀ 0 (omega arith) ∙ ap (λ (j : ℕ). take n buf ++ drop j out₀) end
+      let past : length ws ≤ i = omega arith in
+      rw (drop-of-length-le ws past) at (h .1)
+
+pub length-map : (f : ℕ → ℕ) (xs : List ℕ) → length (map f xs) ≡ length xs
+length-map f [] = refl
+length-map f (x ∷ xs) = ap suc (length-map f xs)
+
+getD-map : (f : ℕ → ℕ) (xs : List ℕ) (i : ℕ) → i < length xs → getD (map f xs) i 0 ≡ f (getD xs i 0)
+getD-map f [] i l = absurd (omega arith)
+getD-map f (x ∷ xs) zero l = refl
+getD-map f (x ∷ xs) (suc i) l = getD-map f xs i (omega arith)
+
+pub settled-at : (first : ℕ) (buf : List ℕ) (n i : ℕ) → i < n → n ≤ length buf → getD (map (settled first) (take n buf)) i 0 ≡ settled first (getD buf i 0)
+settled-at first buf n i l m = let k = length-take-le n buf m in getD-map (settled first) (take n buf) i (omega arith) ∙ ap (settled first) (getD-take n buf i 0 l)
+
+module _ (buf : List ℕ) (at n : ℕ) where
+  pub part-length : at + n ≤ length buf → length (part buf at n) ≡ n
+  unfolding part
+  part-length h = length-take-le n (drop at buf) (rw length-drop (omega arith))
+
+  pub part-at : (i : ℕ) → i < n → getD (part buf at n) i 0 ≡ getD buf (at + i) 0
+  unfolding part
+  part-at i l = getD-take n (drop at buf) i 0 l ∙ getD-drop at buf i 0

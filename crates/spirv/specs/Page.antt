@@ -1,25 +1,25 @@
--- How the code keeps what it writes: names and constants in arrays, words in a buffer; and its two passes. That it comes to specs/Writer.antt is
+-- How the code keeps what it writes: names and constants in arrays, words in a buffer; and its pass over the bytes. That it comes to specs/Writer.antt is
 -- proved, so a reader need not believe this page.
 use mathlib.Core.Path.{_≡_}
-use Prim.Native.Nat.{ℕ, zero, suc, _+_, _*_, _/_, _%_, _^_, _≤_}
-use mathlib.Core.List.{List, [], _∷_, _++_}
+use Prim.Native.Nat.{ℕ, zero, suc, _+_, _-_, _*_, _/_, _%_, _^_, _≤_}
+use mathlib.Core.List.{List, [], _∷_}
 use mathlib.Core.Option.{Option, none, some}
 use mathlib.Core.Bool.{Bool, true, false, cond, _&&_}
-use lib.ListN.{length, getD, set}
+use lib.ListN.{length, getD, set, take, drop}
 use lib.Dec.{ltb, eqb}
 use Rattle.strip.specs.declared.reader.Entry.{Entry}
 use Rattle.strip.specs.declared.reader.Read.{Read}
 use Rattle.strip.specs.declared.reader.Read.the-variants.{Found, Stop}
 use Rattle.strip.specs.declared.shape.Shape.{Shape}
-use Rattle.strip.specs.Entry.{wide, readsFrom}
+use Rattle.strip.specs.Entry.{wide, readsFrom, Each}
 use Rattle.strip.specs.Shape.{isEnd}
 use Rattle.strip.specs.Pass as Shape
 use Rattle.spirv.specs.declared.plan.Name.{Name}
 use Rattle.spirv.specs.declared.pen.Pen.{Pen}
 use Rattle.spirv.specs.Instr.{allWords}
-use Rattle.spirv.specs.Writer.{Const, const, constOf, withNew, Given, given, name, Plan, Silent, Known, Made, Stores, Opens, Closes, midway, instrsBy, planOf, clashes}
+use Rattle.spirv.specs.Writer.{Const, const, constOf, placeOf, withNew, Given, given, name, Plan, Silent, Known, Made, Stores, Opens, Closes, midway, instrsBy, planOf, clashes}
 
--- ---- the first pass: the shape, and the list of constants
+-- ---- the shape, and the list of constants
 
 -- a constant as one number, its key: its kind above its bits
 abbrev pub constAt : ℕ → Const
@@ -39,6 +39,10 @@ pub record Lists (keys : List ℕ) (n : ℕ) (new : List Const) (keys′ : List 
   pub most : n′ ≤ n + 1
   pub kept : length keys′ ≡ 64
 
+-- the place of each of these constants, of which there is one or none
+abbrev pub Placed : List ℕ → ℕ → List Const → ℕ → Type 0
+Placed keys n new i = (i ≤ n) × Each (λ (k : Const). i ≡ placeOf (constsIn keys n) k) new
+
 -- the constants of one strip; none where it is not well-formed, or not the only one
 abbrev pub ending : List Const → List Read → Option (List Const)
 ending ks [] = some ks
@@ -55,7 +59,7 @@ abbrev pub surveyed : Bool → ℕ → List ℕ → Option (List Const)
 surveyed true n keys = some (constsIn keys n)
 surveyed false n keys = none
 
--- what the first pass finds in the bytes: whether they are one strip in order, and so many constants
+-- what the pass finds in the bytes: whether they are one strip in order, and so many constants
 abbrev pub Surveys : List ℕ → Bool → ℕ → List ℕ → Type 0
 Surveys run whole n keys = (surveyed whole n keys ≡ surveyFrom Shape.fresh [] (readsFrom wide 0 run)) × (n ≤ 64)
 
@@ -70,7 +74,7 @@ rising last (x ∷ xs) = ltb last x && rising x xs
 unfoldable pub bucketOf : ℕ → ℕ
 bucketOf x = x * 2654435769 / 4194304 % 1024
 
--- ---- the second pass: the words
+-- ---- the words
 
 -- the words of a constant
 unfoldable pub constWords : ℕ → ℕ → ℕ → Const → List ℕ
@@ -151,12 +155,23 @@ clashed b p = cond b (record { next = p .next; merge = p .merge; values = p .val
 unfoldable pub entered : Given → Page → Entry → Page
 entered g p e = clashed (clashes g (lookOf (p .ids) (p .signs)) e) (wrote p (planOf g (lookOf (p .ids) (p .signs)) e))
 
--- entry after entry, as they are read
-unfoldable pub enteredFrom : Given → Page → List Read → Page
-enteredFrom g p [] = p
-enteredFrom g p (Found e n ∷ rs) = enteredFrom g (entered g p e) rs
-enteredFrom g p (Stop ∷ rs) = p
+-- the ids of the body are counted from here on until it is known how many constants there are: 2 ^ 40 + 2 ^ 31, above all others
+abbrev pub firstId : ℕ
+firstId = 1101659111424
 
--- what the second pass makes of the bytes: from a pen, names and a buffer to others
-abbrev pub Writes : List ℕ → ℕ → List ℕ → ℕ → List ℕ → Pen → List ℕ → List Bool → List ℕ → Pen → List ℕ → List Bool → List ℕ → Type 0
-Writes table bound keys n run p ids signs buf p′ ids′ signs′ buf′ = page p′ ids′ signs′ buf′ ≡ enteredFrom (givenIn table bound keys n) (page p ids signs buf) (readsFrom wide 0 run)
+abbrev pub begin : Pen
+begin = record { next = firstId; merge = 0; at = 0; values = 0; clash = false }
+
+-- entry after entry, as they are read, each with the constants so far
+unfoldable pub enteredPartFrom : List ℕ → ℕ → List Const → Page → List Read → Page
+enteredPartFrom table bound l p [] = p
+enteredPartFrom table bound l p (Found e n ∷ rs) = enteredPartFrom table bound (withNew l (constOf e)) (entered (given table bound (withNew l (constOf e))) p e) rs
+enteredPartFrom table bound l p (Stop ∷ rs) = p
+
+-- n words from a place on
+unfoldable pub part : List ℕ → ℕ → ℕ → List ℕ
+part buf at n = take n (drop at buf)
+
+-- a word of the body, where its ids begin at `first`
+unfoldable pub settled : ℕ → ℕ → ℕ
+settled first w = cond (ltb w 2147483648) w ((w - 2147483648 + first) % 4294967296)

@@ -9,10 +9,9 @@ ghost use Rattle.strip.specs.declared.format.Body.{Body};
 ghost use Rattle.strip.specs.declared.format.Body.the-variants as Body;
 ghost use Rattle.strip.specs.Format.{formatOf};
 ghost use Rattle.strip.specs.Entry.{kindOf, bodyOf};
-ghost use Rattle.spirv.specs.Writer.{Const, const, listed, placeOf, given};
-ghost use Rattle.spirv.specs.Page.{constAt, constsIn, givenIn, page, entered};
+ghost use Rattle.spirv.specs.Writer.{Const, const, constOf, listed, placeOf, given};
+ghost use Rattle.spirv.specs.Page.{constsIn, Placed, givenIn, page, entered};
 use crate::listing::place_of;
-use crate::listing::word_key;
 use crate::opcodes::Op;
 use crate::opcodes::op_of;
 use crate::pen::Pen;
@@ -36,14 +35,6 @@ pub fn nth(bound: u32, i: usize) -> u64
     ensures { λ r. ⌜ r ≡ bound + i ⌝ }
 {
     wide(bound) + i as u64
-}
-
-// The id of a constant.
-fn constant_id(bound: u32, keys: &[u64; 64], n: usize, key: u64) -> u64
-    requires { ⌜ n ≤ 64 ⌝ }
-    ensures { λ r. ⌜ r ≡ bound + placeOf (constsIn (now (keys .entry)) n) (constAt key) ⌝ }
-{
-    nth(bound, place_of(keys, n, key))
 }
 
 // Whether an id is that of the constant 0.
@@ -82,18 +73,17 @@ fn bare(
     bound: u32,
     keys: &[u64; 64],
     n: usize,
+    place: usize,
     k: u8,
 ) -> Pen
-    requires { ⌜ n ≤ 64 ⌝ }
+    requires { ⌜ (n ≤ 64) × Placed (now keys) n (constOf (Entry.Bare k)) place ⌝ }
     ensures { λ r. ⌜ ((table : List ℕ) → page r (now (ids .exit)) (now (signs .exit)) (now (buf .exit)) ≡ entered (givenIn table bound (now (keys .entry)) n) (page p (now (ids .entry)) (now (signs .entry)) (now (buf .entry))) (Entry.Bare k)) ⌝ }
 {
     if k == 2 {
-        let id = constant_id(bound, keys, n, 8589934592);
-        return call(p, ids, signs, id, false);
+        return call(p, ids, signs, nth(bound, place), false);
     }
     if k == 3 {
-        let id = constant_id(bound, keys, n, 12884901888);
-        return call(p, ids, signs, id, false);
+        return call(p, ids, signs, nth(bound, place), false);
     }
     if k == 101 {
         return close_block(p, buf);
@@ -108,13 +98,13 @@ fn word(
     bound: u32,
     keys: &[u64; 64],
     n: usize,
+    place: usize,
     w: u32,
 ) -> Pen
-    requires { ⌜ n ≤ 64 ⌝ }
+    requires { ⌜ (n ≤ 64) × Placed (now keys) n (constOf (Entry.Word w)) place ⌝ }
     ensures { λ r. ⌜ ((table buf : List ℕ) → page r (now (ids .exit)) (now (signs .exit)) buf ≡ entered (givenIn table bound (now (keys .entry)) n) (page p (now (ids .entry)) (now (signs .entry)) buf) (Entry.Word w)) ⌝ }
 {
-    let id = constant_id(bound, keys, n, word_key(w));
-    call(p, ids, signs, id, false)
+    call(p, ids, signs, nth(bound, place), false)
 }
 
 fn place(n: u8) -> usize
@@ -353,14 +343,15 @@ pub fn write_entry(
     bound: u32,
     keys: &[u64; 64],
     n: usize,
+    place: usize,
     e: Entry,
 ) -> Pen
-    requires { ⌜ (n ≤ 64) × (formatOf (kindOf e) .body ≡ bodyOf e) ⌝ }
+    requires { ⌜ (n ≤ 64) × (formatOf (kindOf e) .body ≡ bodyOf e) × Placed (now keys) n (constOf e) place ⌝ }
     ensures { λ r. ⌜ page r (now (ids .exit)) (now (signs .exit)) (now (buf .exit)) ≡ entered (givenIn (now (table .entry)) bound (now (keys .entry)) n) (page p (now (ids .entry)) (now (signs .entry)) (now (buf .entry))) e ⌝ }
 {
     match e {
-        Entry::Bare(k) => bare(p, ids, signs, buf, bound, keys, n, k),
-        Entry::Word(w) => word(p, ids, signs, bound, keys, n, w),
+        Entry::Bare(k) => bare(p, ids, signs, buf, bound, keys, n, place, k),
+        Entry::Word(w) => word(p, ids, signs, bound, keys, n, place, w),
         Entry::Cell(k, c) => cell(p, ids, signs, buf, table, k, c),
         Entry::Store(k, c, a) => store(p, ids, signs, buf, table, k, c, a),
         Entry::One(k, a) => one(p, ids, signs, buf, table, k, a),

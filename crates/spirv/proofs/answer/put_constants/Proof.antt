@@ -1,5 +1,5 @@
 use mathlib.Core.Path.{_≡_, ap}
-use Prim.Native.Nat.{ℕ, _+_, _-_, _≤_, _<_}
+use Prim.Native.Nat.{_-_, _≤_}
 use native.Mathlib.Omega.{arith}
 use lib.ListN.{getD}
 use Rattle.spirv.specs.Instr.{allWords}
@@ -11,10 +11,10 @@ use Rattle.spirv.proofs.answer.put_constants.Statement.{statement}
 use Rattle.spirv.proofs.answer.put_constants.Tie as tie
 
 abbrev Inv-loop : tie.InvT-loop
-Inv-loop buf₀ table bound keys n word truth at₀ i₀ buf at i = (i ≤ n) × ((word ≡ getD table 0 0) × ((truth ≡ getD table 2 0) × (puts (tape buf at) (constsAt (givenIn table bound keys n) keys n bound i) ≡ puts (tape buf₀ 0) (allWords (constInstrs (givenIn table bound keys n) bound (constsIn keys n))))))
+Inv-loop buf₀ at table bound keys n word truth end₀ i₀ buf end i = (i ≤ n) × ((word ≡ getD table 0 0) × ((truth ≡ getD table 2 0) × (puts (tape buf end) (constsAt (givenIn table bound keys n) keys n bound i) ≡ puts (tape buf₀ at) (allWords (constInstrs (givenIn table bound keys n) bound (constsIn keys n))))))
 
 abbrev μ-loop : tie.MeasureT-loop
-μ-loop buf₀ table bound keys n word truth at₀ i₀ buf at i = n - i
+μ-loop buf₀ at table bound keys n word truth end₀ i₀ buf end i = n - i
 
 pub put-constants-spec : {M : Type 1} → statement M
 put-constants-spec =

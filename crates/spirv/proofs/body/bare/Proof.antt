@@ -1,6 +1,7 @@
 use mathlib.Core.Path.{_∙_}
+use native.Mathlib.Omega.{arith}
 use borrow.Author.Tests.{ne-eqb}
-use Rattle.spirv.specs.Writer.{constId, Silent, Known}
+use Rattle.spirv.specs.Writer.{constOf, constId, Silent, Known}
 use Rattle.spirv.specs.Page.{wrote}
 use Rattle.spirv.proofs.Plans.{plan-true, plan-false, plan-close, plan-end, bare-entered}
 use borrow.Author.Needs.{needs}
@@ -8,12 +9,12 @@ use Rattle.spirv.proofs.body.bare.Statement.{statement}
 use Rattle.spirv.proofs.body.bare.Tie as tie
 
 returns : tie.Need-returns
-unfolding wrote constId
-returns c = λ table. c .call .ensures _ ∙ rw (c .before .before .before .constant-id .ensures) (bare-entered _ _ (Known _) _ (plan-true _ _ _ (c .before .before .before .before .if1 .taken)))
+unfolding constOf wrote constId
+returns c = λ table. let h = rw (c .before .before .before .before .if1 .taken) at (c .before .before .before .before .before .pre .1 .1) in c .call .ensures _ ∙ rw (c .before .nth .ensures, h .0) (bare-entered _ _ (Known _) _ (plan-true _ _ _ (c .before .before .before .before .if1 .taken)))
 
 returns-2 : tie.Need-returns-2
-unfolding wrote constId
-returns-2 c = λ table. c .call2 .ensures _ ∙ rw (c .before .before .before .constant-id2 .ensures) (bare-entered _ _ (Known _) _ (plan-false _ _ _ (c .before .before .before .before .if2 .taken)))
+unfolding constOf wrote constId
+returns-2 c = λ table. let h = rw (c .before .before .before .before .if2 .taken) at (c .before .before .before .before .before .before .pre .1 .1) in c .call2 .ensures _ ∙ rw (c .before .nth2 .ensures, h .0) (bare-entered _ _ (Known _) _ (plan-false _ _ _ (c .before .before .before .before .if2 .taken)))
 
 returns-4 : tie.Need-returns-4
 unfolding wrote
@@ -23,10 +24,10 @@ pub bare-spec : {M : Type 1} → statement M
 bare-spec =
     tie.close
     (tie.spec
-    (λ c κs. search needs)
+    (λ c κs. omega (arith, c .before .before .before .pre .0, c .before .before .before .pre .1 .0))
     (λ c κs. search needs)
     returns
-    (λ c κs. search needs)
+    (λ c κs. omega (arith, c .before .before .before .before .pre .0, c .before .before .before .before .pre .1 .0))
     (λ c κs. search needs)
     returns-2
     (λ c κs. search needs)

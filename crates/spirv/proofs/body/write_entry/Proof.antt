@@ -32,9 +32,9 @@ write-entry-spec =
     tie.close
     (tie.spec
     (λ c. search needs)
-    (λ c κs. search needs)
+    (λ c κs. (c .before .before .before .before .before .before .before .pre .0, rw (c .before .before .before .before .e .given .1) at (c .before .before .before .before .before .before .before .pre .2)))
     (λ c. search needs)
-    (λ c κs. search needs)
+    (λ c κs. (c .before .before .before .before .before .before .pre .0, rw (c .before .before .before .e2 .given .1) at (c .before .before .before .before .before .before .pre .2)))
     (λ c. search needs)
     cell-requires
     (λ c. search needs)

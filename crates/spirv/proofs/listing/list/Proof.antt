@@ -8,7 +8,7 @@ list-spec =
     tie.close
     (tie.spec
     (λ c κs. search needs)
-    (λ c. listed-stays _ _ (c .before .before .before .pre .1) _ (rw (c .before .place-of .ensures .0) at (c .if1 .taken)))
+    (λ c. listed-stays _ _ (c .before .before .before .pre .1) _ _ (c .before .place-of .ensures .0) (c .if1 .taken))
     (λ c. search needs)
     (λ c. search needs)
     (λ c. search needs)

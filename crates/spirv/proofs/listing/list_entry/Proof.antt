@@ -15,7 +15,7 @@ returns-2 c = rw (c .before .before .before .before .before .e .given .1, c .bef
 
 returns-3 : tie.Need-returns-3
 unfolding constOf
-returns-3 c = rw (c .before .before .before .e .given .1, ne-eqb _ _ (c .before .if1 .left), ne-eqb _ _ (c .if2 .left)) (listed-none _ _ (c .before .before .before .before .before .pre .1))
+returns-3 c = rw (c .before .before .before .before .e .given .1, ne-eqb _ _ (c .before .before .if1 .left), ne-eqb _ _ (c .before .if2 .left), c .none .ensures .0, c .none .ensures .1) (listed-none _ _ (c .before .before .before .before .before .before .pre .1))
 
 returns-4 : tie.Need-returns-4
 unfolding constOf
@@ -23,27 +23,27 @@ returns-4 c = rw (c .before .before .before .before .e2 .given .1) (rw (c .befor
 
 returns-5 : tie.Need-returns-5
 unfolding constOf
-returns-5 c = rw (c .before .e3 .given .1) (listed-none _ _ (c .before .before .before .pre .1))
+returns-5 c = rw (c .before .before .e3 .given .1, c .none2 .ensures .0, c .none2 .ensures .1) (listed-none _ _ (c .before .before .before .before .pre .1))
 
 returns-6 : tie.Need-returns-6
 unfolding constOf
-returns-6 c = rw (c .before .e4 .given .1) (listed-none _ _ (c .before .before .before .pre .1))
+returns-6 c = rw (c .before .before .e4 .given .1, c .none3 .ensures .0, c .none3 .ensures .1) (listed-none _ _ (c .before .before .before .before .pre .1))
 
 returns-7 : tie.Need-returns-7
 unfolding constOf
-returns-7 c = rw (c .before .e5 .given .1) (listed-none _ _ (c .before .before .before .pre .1))
+returns-7 c = rw (c .before .before .e5 .given .1, c .none4 .ensures .0, c .none4 .ensures .1) (listed-none _ _ (c .before .before .before .before .pre .1))
 
 returns-8 : tie.Need-returns-8
 unfolding constOf
-returns-8 c = rw (c .before .e6 .given .1) (listed-none _ _ (c .before .before .before .pre .1))
+returns-8 c = rw (c .before .before .e6 .given .1, c .none5 .ensures .0, c .none5 .ensures .1) (listed-none _ _ (c .before .before .before .before .pre .1))
 
 returns-9 : tie.Need-returns-9
 unfolding constOf
-returns-9 c = rw (c .before .e7 .given .1) (listed-none _ _ (c .before .before .before .pre .1))
+returns-9 c = rw (c .before .before .e7 .given .1, c .none6 .ensures .0, c .none6 .ensures .1) (listed-none _ _ (c .before .before .before .before .pre .1))
 
 returns-10 : tie.Need-returns-10
 unfolding constOf
-returns-10 c = rw (c .before .e8 .given .1) (listed-none _ _ (c .before .before .before .pre .1))
+returns-10 c = rw (c .before .before .e8 .given .1, c .none7 .ensures .0, c .none7 .ensures .1) (listed-none _ _ (c .before .before .before .before .pre .1))
 
 pub list-entry-spec : {M : Type 1} → statement M
 list-entry-spec =
@@ -54,15 +54,22 @@ list-entry-spec =
     returns
     (λ c κs. search needs)
     returns-2
+    (λ c κs. search needs)
     (λ c. search needs)
     (λ c κs. search needs)
     (λ c κs. search needs)
     (λ c. search needs)
+    (λ c κs. search needs)
     (λ c. search needs)
+    (λ c κs. search needs)
     (λ c. search needs)
+    (λ c κs. search needs)
     (λ c. search needs)
+    (λ c κs. search needs)
     (λ c. search needs)
+    (λ c κs. search needs)
     (λ c. search needs)
+    (λ c κs. search needs)
     returns-3
     returns-4
     returns-5
