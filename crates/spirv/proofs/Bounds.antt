@@ -1,4 +1,4 @@
--- The words of a strip in order fit the code's buffer, and each fits 32 bits where the ids are in order.
+-- The words of a strip in order fit the code's buffer; what holds of small numbers and of ids, as that they fit 32 bits, holds of each word.
 use mathlib.Core.Path.{_≡_, refl, ap, _∙_}
 use mathlib.Core.List.{List, [], _∷_, _++_, map, append-nil}
 use mathlib.Core.Bool.{Bool, true, false, cond, not, _||_, xor, false≢true}

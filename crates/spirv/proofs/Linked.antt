@@ -1,4 +1,4 @@
--- What the code's second pass comes to, entry after entry: the words of the strip's body, its next id, and whether it clashes.
+-- What the code's writing comes to, entry after entry, given all constants: the words of the strip's body, its next id, and whether it clashes.
 use mathlib.Core.Path.{_≡_, refl, ap, ap₂, _∙_, sym}
 use mathlib.Core.List.{List, [], _∷_, _++_, map, append-assoc, append-nil}
 use mathlib.Core.Bool.{Bool, true, false, cond, not, _&&_, _||_, false≢true, true≢false}

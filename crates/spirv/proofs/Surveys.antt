@@ -1,4 +1,4 @@
--- The first pass over the bytes: what each turn keeps, and what it comes to.
+-- The shape and the constants in the pass over the bytes: what each turn keeps, and what it comes to.
 use mathlib.Core.Path.{_≡_, refl, ap, ap₂, _∙_, sym}
 use mathlib.Core.List.{List, [], _∷_, _++_}
 use mathlib.Core.Option.{Option, none, some}

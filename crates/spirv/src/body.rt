@@ -29,7 +29,7 @@ use crate::plan::name_at;
 use crate::plan::wide;
 use strip::Entry;
 
-// A place among the constants.
+// The id of the i-th constant, or the first id after so many.
 pub fn nth(bound: u32, i: usize) -> u64
     requires { ⌜ i ≤ 64 ⌝ }
     ensures { λ r. ⌜ r ≡ bound + i ⌝ }
