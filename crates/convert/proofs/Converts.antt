@@ -10,7 +10,6 @@ use Rattle.strip.specs.declared.format.Layout.{Layout}
 use Rattle.strip.specs.Entry.{ref_length}
 use Rattle.strip.specs.Shape.{shape_ok}
 use Rattle.convert.specs.declared.pass.Size.{Size}
-use Rattle.convert.specs.declared.pass.Size.TheVariants as Size
 use Rattle.convert.specs.declared.Outcome.{Outcome}
 use Rattle.convert.specs.declared.Outcome.TheVariants.{Length, BadShape, NoRoom}
 use Rattle.convert.specs.Convert.{other, converted, number_of, length_of, Answer, answer_of, fitted, conversion}

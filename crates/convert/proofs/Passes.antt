@@ -1,17 +1,16 @@
 -- The pass over a run: what each turn keeps, and what it comes to.
 use mathlib.Core.Path.{◌≡◌, refl, sym, ap, ◌∙◌}
-use mathlib.Core.Bool.{Bool, true, false, cond, true≢false, false≢true}
+use mathlib.Core.Bool.{Bool, true, false, cond, false≢true}
 use mathlib.Core.List.{List, [], ◌∷◌, ◌++◌, append-nil, append_assoc}
 use mathlib.Core.Option.{Option, none, some, get_or}
-use Prim.Native.Nat.{ℕ, zero, suc, ◌+◌, ◌*◌, ◌≤◌}
+use Prim.Native.Nat.{ℕ, suc, ◌+◌, ◌*◌, ◌≤◌}
 use native.Mathlib.Omega.{arith}
 use native.Mathlib.Nat.{zero-add}
 use lib.Dec.{eqb}
-use lib.ListN.{length, take, drop, length-append, length-drop}
+use lib.ListN.{length, drop, length-append, length-drop}
 use lib.Seq.{sets, sets-eq}
 use borrow.Author.Tests.{eq-eqb, ne_eqb}
 use Rattle.strip.specs.declared.format.Body.{Body}
-use Rattle.strip.specs.declared.format.Body.TheVariants as Body
 use Rattle.strip.specs.declared.reader.Entry.{Entry}
 use Rattle.strip.specs.declared.reader.Read.{Read}
 use Rattle.strip.specs.declared.reader.Read.TheVariants.{Found, Stop}
@@ -25,7 +24,6 @@ use Rattle.strip.proofs.EntryRead.{found, reads-found, reads-stop, reads_none}
 use Rattle.strip.proofs.Pass.{pass_shape, pass-stop, pass-refused, pass-taken, ready-fresh, step-ready}
 use Rattle.strip.proofs.Write.{sets-append}
 use Rattle.convert.specs.declared.pass.Size.{Size}
-use Rattle.convert.specs.declared.pass.Size.TheVariants as Size
 use Rattle.convert.specs.Convert.{converted}
 use Rattle.convert.specs.Pass.{rewritten, Turns, measured, Passes}
 use Rattle.convert.proofs.Turns.{length-turned}

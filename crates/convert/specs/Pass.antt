@@ -1,5 +1,5 @@
 -- The passes by which the code converts a run: that they give `conversion` is proved, so a reader need not believe this page.
-use Rattle.std.specs.Prelude.{ℕ, ◌+◌, ◌≡◌, Bool, true, false, cond, List, [], ◌∷◌, ◌++◌, length, drop}
+use Rattle.std.specs.Prelude.{ℕ, ◌≡◌, Bool, false, cond, List, [], ◌∷◌, ◌++◌, length, drop}
 use Rattle.std.proofs.lemmas.List.Edits.{sets}
 use Rattle.strip.specs.declared.reader.Entry.{Entry}
 use Rattle.strip.specs.declared.reader.Read.{Read}
@@ -9,7 +9,6 @@ use Rattle.strip.specs.Entry.{encode}
 use Rattle.strip.specs.Shape.{shape_ok}
 use Rattle.strip.specs.Pass.{stepped}
 use Rattle.convert.specs.declared.pass.Size.{Size}
-use Rattle.convert.specs.declared.pass.Size.TheVariants as Size
 use Rattle.convert.specs.Convert.{converted}
 
 -- the entries that were read, with references of so many bytes

@@ -1,6 +1,6 @@
 -- How the code keeps the values of a strip: a tag and a word for each, in two arrays of which the first so many count. A caller of
 -- `evaluate` sees none of it.
-use Rattle.std.specs.Prelude.{◌≡◌, ℕ, zero, suc, ◌%◌, Bool, true, false, cond, List, [], ◌∷◌, length, ◌==◌}
+use Rattle.std.specs.Prelude.{◌≡◌, ℕ, zero, suc, ◌%◌, cond, List, [], ◌∷◌, length, ◌==◌}
 use Rattle.evaluation.specs.declared.value.Value.{Value}
 use Rattle.evaluation.specs.declared.value.Value.TheVariants.{Undefined, Word, Truth, Slot, Address}
 

@@ -1,7 +1,7 @@
 -- A record translated and its strip evaluated: the refusals are 01's, and the state is that of the meaning.
 use mathlib.Core.Path.{◌≡◌, refl, sym, ap, ◌∙◌}
 use mathlib.Core.Bool.{Bool, true, false, cond, not, ◌&&◌}
-use mathlib.Core.List.{List, [], ◌∷◌, map}
+use mathlib.Core.List.{List, [], ◌∷◌}
 use mathlib.Core.Option.{Option, none, some}
 use Prim.Native.Nat.{ℕ, zero, suc, ◌-◌, ◌^◌, ◌≤◌, ◌<◌}
 use native.Mathlib.Omega.{arith}
@@ -10,7 +10,7 @@ use lib.ListN.{length, get_or, take}
 use mir.Val.{Val}
 use denote.Array.{each}
 use denote.Shadow.{shadow}
-use denote.Struct.Field.{u32-field}
+use denote.Builtin.{u32}
 use borrow.Author.Tests.{le-leb}
 use Rattle.strip.specs.Entry.{wide}
 use Rattle.evaluation.specs.declared.state.State.{State}
@@ -155,7 +155,7 @@ module _ (l m out out' : List ℕ) (t : Translated) (h : length out ≡ 256) (h'
 
 -- ---- what the type of a state says: a register is a word
 
-pub array-words : (xs : List ℕ) (us : List Val) → shadow (each ℕ u32-field.row.own_val (map (λ v. v) xs) us) → (n : ℕ) → get_or xs n 0 < 2 ^ 32
+pub array-words : (xs : List ℕ) (us : List Val) → shadow (each u32.Denot u32.own_val xs us) → (n : ℕ) → get_or xs n 0 < 2 ^ 32
 array-words [] us h n = omega arith
 array-words (x ∷ xs) [] h n = absurd h
 array-words (x ∷ xs) (u ∷ us) h zero = h.0.1

@@ -4,7 +4,7 @@ use mathlib.Core.List.{List, [], ◌∷◌}
 use mathlib.Core.Option.{Option, none}
 use mathlib.Core.Option as O
 use mathlib.Core.Bool.{Bool, true, false, cond, ◌&&◌, ◌||◌, false≢true, or-false}
-use Prim.Native.Nat.{ℕ, suc, ◌+◌, ◌-◌, ◌≤◌, ◌<◌}
+use Prim.Native.Nat.{ℕ, suc, ◌+◌, ◌≤◌, ◌<◌}
 use native.Mathlib.Omega.{arith}
 use native.Mathlib.Numerals.{add-one}
 use lib.Dec.{eqb, ltb}
@@ -12,16 +12,13 @@ use lib.ListN.{length, get_or, take, drop, length-set, drop_of_length-le}
 use lib.Seq.{take-suc-set}
 use borrow.Author.Tests.{eqb-true, ne_eqb, ltb-true, ltb-false}
 use Rattle.strip.specs.declared.format.Body.{Body}
-use Rattle.strip.specs.declared.format.Body.TheVariants as Body
 use Rattle.strip.specs.declared.reader.Entry.{Entry}
-use Rattle.strip.specs.declared.reader.Entry.TheVariants as Entry
 use Rattle.strip.specs.declared.reader.Read.TheVariants.{Stop}
 use Rattle.strip.specs.declared.shape.Shape.{Shape}
 use Rattle.strip.specs.Format.{format_of}
 use Rattle.strip.specs.Entry.{wide, kind_of, body_of, reads_from}
 use Rattle.strip.specs.Shape.{is_open, is_end, joined, cut_at_ends, decode, all_ok, shape_ok}
-use Rattle.strip.specs.Pass.{Ready, fresh, refused_shape, with, pushed, placed, opened, closed, after, entry_ok, stepped, pass_from}
-use Rattle.strip.specs.Pass as Shape
+use Rattle.strip.specs.Pass.{Ready, fresh, stepped, pass_from}
 use Rattle.strip.proofs.EntryRead.{Turn}
 use Rattle.strip.proofs.Pass.{pass_shape, pass-stop, pass-refused, pass-taken, ready-fresh, step-ready, left-falls}
 use Rattle.evaluation.specs.Cells.{stores, loads}

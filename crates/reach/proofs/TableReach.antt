@@ -9,13 +9,12 @@ use lib.Dec.{eqb, ltb}
 use mathlib.Core.Logic.{◌⊎◌, inl, inr}
 use borrow.Author.Tests.{eqb-true, eq-eqb, ne_eqb, lt-ltb, ltb-true, ltb-false}
 use Rattle.strip.specs.declared.reader.Entry.{Entry}
-use Rattle.strip.specs.declared.reader.Entry.TheVariants as Entry
 use Rattle.strip.specs.Entry.{kind_of}
 use Rattle.strip.specs.Shape.{is_open}
 use Rattle.strip.proofs.Tests.{and_left, and_right}
 use Rattle.evaluation.specs.Cells.{store_kind, stores, loads}
 use Rattle.reach.specs.declared.cells.Cells.{Cells}
-use Rattle.reach.specs.Reach.{listed, table, cells_where, any, stores_listed, before, rule, reach_strips}
+use Rattle.reach.specs.Reach.{listed, cells_where, any, stores_listed, before, rule, reach_strips}
 use Rattle.reach.specs.Rows.{kind_no, number_no, listed_no, cell_number, load_place, store_place, any_below, Whole}
 use Rattle.reach.proofs.Truths.{same_truth, or_elim, any-intro, any-elim, any-cong, any_none, any-or, any-one, table-length, table-in, true-within}
 

@@ -4,7 +4,6 @@ use Rattle.std.specs.Prelude.{Bool, false, cond, not, ◌&&◌, ◌||◌, List, 
 use Rattle.std.proofs.Math.Option
 use Rattle.strip.specs.Entry.{wide}
 use Rattle.strip.specs.declared.reader.Entry.{Entry}
-use Rattle.strip.specs.declared.reader.Entry.TheVariants as Entry
 use Rattle.strip.specs.Shape.{is_open, decode, shape_ok}
 use Rattle.evaluation.specs.Cells.{store_kind, stores, loads}
 use Rattle.reach.specs.declared.cells.Cells.{Cells}

@@ -6,7 +6,6 @@ use Rattle.std.proofs.Math.Option
 use Rattle.std.specs.Int.Bits.{bit_or}
 use Rattle.strip.specs.Entry.{wide}
 use Rattle.strip.specs.declared.reader.Entry.{Entry}
-use Rattle.strip.specs.declared.reader.Entry.TheVariants as Entry
 use Rattle.strip.specs.Shape.{decode, shape_ok}
 use Rattle.reach.specs.declared.cells.Cells.{Cells}
 use Rattle.reach.specs.declared.walk.StripSummary.{StripSummary}

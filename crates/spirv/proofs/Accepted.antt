@@ -1,7 +1,7 @@
 -- The theorems of #105, of whatever bytes, bound, table and room are accepted: reading the words ends as evaluating the bytes does, the words are valid,
 -- and they make the ids from the bound to the free one that is handed back.
 use Rattle.std.proofs.Common.{◌≡◌, ℕ, Bool, true, false, cond, ◌&&◌, eqb, ltb, leb, List, [], ◌∷◌, length, sym, refl, ap, ◌∙◌, arith}
-use mathlib.Core.Option.{Option, none, some}
+use mathlib.Core.Option.{some}
 use mathlib.Core.Bool.{false≢true}
 use Rattle.strip.specs.declared.reader.Entry.{Entry}
 use Rattle.strip.specs.Entry.{Each, Formed, wide}
@@ -18,11 +18,11 @@ use Rattle.evaluation.proofs.Flat.{evaluated-strips}
 use Rattle.spirv.specs.Instr.{all_words}
 use Rattle.spirv.specs.Claim.{stop_of, Agree, EndsOn, EndsAs}
 use Rattle.spirv.specs.Lent.{lent_env, lent_sorts}
-use Rattle.spirv.specs.Reading.{Answer, Ended, Stopped, Lacking, Broken, meaning}
+use Rattle.spirv.specs.Reading.{Broken, meaning}
 use Rattle.spirv.specs.Valid.{valid, made_by}
-use Rattle.spirv.specs.Writer.{Given, given_of, start_of, const_instrs, strip_words, next_id, clash_from, table_ok, ids_ok, Written, Words, Refused, fitting, strip_answer, only_strip, written}
+use Rattle.spirv.specs.Writer.{Given, given_of, start_of, const_instrs, strip_words, next_id, clash_from, table_ok, ids_ok, Written, Words, Refused, strip_answer, only_strip, written}
 use Rattle.spirv.proofs.Refusals.{entries-meet}
-use Rattle.spirv.proofs.Theorem.{strip-reads, one-strip, accepts, the_words, Accepted, strip-accepted}
+use Rattle.spirv.proofs.Theorem.{strip-reads, one-strip, accepts, the_words, strip-accepted}
 use Rattle.spirv.proofs.WellTyped.{strip-valid}
 use Rattle.spirv.proofs.Ids.{strip-ids}
 

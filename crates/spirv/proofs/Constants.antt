@@ -1,16 +1,15 @@
 -- The list of constants and the lent table: what the body finds in the environment.
-use Rattle.std.proofs.Common.{◌≡◌, ℕ, zero, suc, ◌+◌, ◌<◌, ◌≤◌, Bool, true, false, cond, not, ◌&&◌, ◌||◌, eqb, ltb, leb, List, [], ◌∷◌, ◌++◌, length, get_or, sym, refl, ap, ◌∙◌, ap₂, true≢false, arith, ltb-true, eq-eqb, ne_eqb, eqb-true}
+use Rattle.std.proofs.Common.{◌≡◌, ℕ, zero, suc, ◌+◌, ◌<◌, ◌≤◌, Bool, true, false, cond, not, ◌||◌, eqb, ltb, List, [], ◌∷◌, ◌++◌, length, get_or, sym, refl, ap, ◌∙◌, ap₂, true≢false, arith, ltb-true, eq-eqb, ne_eqb, eqb-true}
 use mathlib.Core.Bool.{or-true, false≢true}
 use borrow.Author.Tests.{not-true}
 use Rattle.strip.specs.declared.reader.Entry.{Entry}
 use Rattle.strip.specs.Shape.{all}
 use Rattle.strip.proofs.Tests.{and_left, and_right}
-use Rattle.evaluation.specs.declared.value.Value.{Value}
 use Rattle.evaluation.specs.declared.value.Value.TheVariants.{Word, Truth}
 use Rattle.evaluation.specs.declared.state.State.{State}
 use Rattle.spirv.specs.Instr.{Instr, instr}
-use Rattle.spirv.specs.Reading.{Thing, Nothing, Types, Holds, Env, bind, Act, Bind, typed, constant, constant_truth, act_of, Running, when_free, onward, read_from}
-use Rattle.spirv.specs.Writer.{Const, const, same, const_of, listed, place_of, with_new, constants_from, constants_of, Given, lent, const_id, const_instr, const_instrs, given_of, among, distinct, lent_ok, table_ok}
+use Rattle.spirv.specs.Reading.{Nothing, Types, Holds, Env, bind, typed, constant, constant_truth, act_of, Running, when_free, onward, read_from}
+use Rattle.spirv.specs.Writer.{Const, const, same, const_of, listed, place_of, with_new, constants_from, constants_of, Given, lent, const_id, const_instr, const_instrs, among, distinct, lent_ok, table_ok}
 use Rattle.spirv.specs.Lent.{role_of, where_in, lent_env}
 use Rattle.spirv.proofs.Names.{bind-same, bind-other}
 use Rattle.spirv.proofs.Entries.{const_value, World}

@@ -1,8 +1,7 @@
 -- What an entry does, and what its words do: one line for each kind.
-use Rattle.std.proofs.Common.{◌≡◌, ℕ, zero, suc, ◌+◌, ◌-◌, ◌*◌, ◌<◌, ◌≤◌, Bool, true, false, cond, not, ◌&&◌, ◌||◌, eqb, ltb, leb, List, [], ◌∷◌, ◌++◌, map, length, get_or, sym, refl, ap, ◌∙◌, ap₂, true≢false, arith, ltb-false, ltb-true, le-ltb, lt-ltb, ne_eqb, leb-false, leb-true}
-use mathlib.Core.Option.{Option, none, some}
+use Rattle.std.proofs.Common.{◌≡◌, ℕ, ◌+◌, ◌-◌, ◌*◌, ◌<◌, ◌≤◌, Bool, true, false, cond, ◌&&◌, eqb, ltb, leb, List, [], ◌∷◌, map, length, refl, ap, ◌∙◌, true≢false, arith, ltb-true, le-ltb, lt-ltb, ne_eqb}
+use mathlib.Core.Option.{some}
 use mathlib.Core.Bool.{xor, false≢true}
-use borrow.Author.Tests.{not-true}
 use Rattle.strip.specs.declared.reader.Entry.{Entry}
 use Rattle.strip.specs.declared.reader.Entry.TheVariants as Of
 use Rattle.strip.specs.Format.{format_of}
@@ -13,21 +12,19 @@ use Rattle.strip.proofs.Table.{body_number}
 use Rattle.evaluation.specs.declared.value.Value.{Value}
 use Rattle.evaluation.specs.declared.value.Value.TheVariants.{Undefined, Word, Truth, Slot, Address}
 use Rattle.evaluation.specs.declared.state.State.{State}
-use Rattle.evaluation.specs.declared.machine.Refusal.{Refusal}
 use Rattle.evaluation.specs.declared.machine.Refusal.TheVariants.{BadShape, UndefinedValue, NoConstant}
 use Rattle.evaluation.specs.Word.{unary_word}
-use Rattle.evaluation.specs.Value.{with_word, with_truth, with_slot, with_address, unary, negated, two, three, inserted_value}
+use Rattle.evaluation.specs.Value.{with_word, with_truth, with_slot, unary, two, three}
 use Rattle.evaluation.specs.State.{loaded, stored_reg, stored_pred, stored_flag}
 use Rattle.evaluation.specs.Machine.{Effect, Push, SetReg, SetPred, SetFlag, Enter, Pass, Finish, Refuse, storing_word, storing_truth, storing, entering, address_words, addressing, fetched, bare_effect, cell_effect, one_effect, four_effect, value_at, effect_of}
 use Rattle.evaluation.specs.Machine as Eval
 use Rattle.spirv.specs.declared.opcodes.Op.{Op}
 use Rattle.spirv.specs.declared.opcodes.Op.TheVariants.{Core, Glsl}
 use Rattle.spirv.specs.Opcodes.{op_of}
-use Rattle.spirv.specs.Reading.{Thing, Nothing, Types, Imported, Register, Predicate, Flag, Holds, Env, values_of, core_op, glsl_op, Act, Bind, Write, Jump, On, Undef, Beyond, Invalid, made, meant, operating, in_set, extending, load_from, loading, store_to, with_one, writing, placed, chained, chaining, act_of}
-use Rattle.spirv.specs.declared.plan.Name.{Name}
-use Rattle.spirv.specs.Writer.{Const, const, const_of, listed, Given, lent, type_id, const_id, name, name_at, id_at, Plan, Silent, Known, Made, Stores, Opens, Closes, sign_of, planned, operation, casting, plan_of, Midway}
+use Rattle.spirv.specs.Reading.{Thing, Nothing, Register, Predicate, Flag, Holds, Env, Act, Bind, Write, On, Undef, Beyond, Invalid, made, meant, operating, in_set, extending, load_from, loading, store_to, with_one, writing, placed, chained, chaining, act_of}
+use Rattle.spirv.specs.Writer.{Const, const, const_of, listed, Given, lent, type_id, const_id, name, name_at, id_at, Plan, Silent, Known, Made, Stores, Opens, Closes, planned, operation, casting, plan_of, Midway}
 use Rattle.spirv.specs.Lent.{role_of}
-use Rattle.spirv.proofs.Keys.{AllOf, keys, kinds_of, kind-among}
+use Rattle.spirv.proofs.Keys.{keys, kinds_of, kind-among}
 use Rattle.spirv.proofs.Ops.{value_op, one-is, not_is, two_is, three-is, four_is, plain, plain-is, plain_op}
 use Rattle.spirv.proofs.Names.{Rel, rel-at, seen}
 use Rattle.spirv.proofs.Typing.{has_kind, Kinds, kinds-length, named-kind, named-there}

@@ -1,6 +1,6 @@
 -- Each operation's opcode means what the operation is: one line for each kind.
-use Rattle.std.proofs.Common.{◌≡◌, ℕ, ◌<◌, Bool, true, false, cond, not, ◌&&◌, ◌||◌, eqb, ltb, List, [], ◌∷◌, sym, refl, ap, ◌∙◌}
-use mathlib.Core.Option.{Option, none, some}
+use Rattle.std.proofs.Common.{◌≡◌, ℕ, Bool, true, false, cond, not, ◌&&◌, eqb, ltb, List, [], ◌∷◌, refl}
+use mathlib.Core.Option.{Option, some}
 use borrow.Author.Tests.{not-true}
 use Rattle.strip.proofs.Tests.{among, and_left, and_right}
 use Rattle.evaluation.specs.declared.value.Value.{Value}
@@ -11,7 +11,7 @@ use Rattle.spirv.specs.declared.opcodes.Op.{Op}
 use Rattle.spirv.specs.declared.opcodes.Op.TheVariants.{Core, Glsl}
 use Rattle.spirv.specs.Opcodes.{Row, rows, lookup, op_of}
 use Rattle.spirv.specs.Reading.{one_op, two_op, three_op, four_op, core_op, one_glsl, two_glsl, glsl_op}
-use Rattle.spirv.proofs.Keys.{AllOf, keys}
+use Rattle.spirv.proofs.Keys.{keys}
 
 -- what an operation makes of values
 unfoldable pub value_op : Op → List Value → Option Value

@@ -1,16 +1,14 @@
 -- How each entry is written, by the tests that the code makes.
-use Rattle.std.proofs.Common.{◌≡◌, ℕ, ◌+◌, Bool, true, false, cond, not, ◌&&◌, ◌||◌, eqb, ltb, List, [], ◌∷◌, get_or, refl, ap, ◌∙◌, true≢false}
+use Rattle.std.proofs.Common.{◌≡◌, ℕ, ◌+◌, Bool, true, false, cond, not, ◌&&◌, eqb, ltb, [], ◌∷◌, refl, true≢false}
 use mathlib.Core.Bool.{xor, false≢true}
 use Rattle.strip.specs.declared.format.Body.{Body}
-use Rattle.strip.specs.declared.format.Body.TheVariants as Body
-use Rattle.strip.specs.declared.reader.Entry.{Entry}
 use Rattle.strip.specs.declared.reader.Entry.TheVariants as Of
 use Rattle.strip.specs.Format.{format_of}
 use Rattle.strip.specs.Entry.{body_of}
 use Rattle.strip.proofs.Table.{body_number}
 use Rattle.spirv.specs.declared.plan.Name.{Name}
 use Rattle.spirv.specs.Opcodes.{op_of}
-use Rattle.spirv.specs.Writer.{const, const_id, place_of, listed, Given, lent, name, Plan, Silent, Known, Made, Stores, Opens, Closes, planned, first_sign, sign_of, operation, casting, plan_of, clashes}
+use Rattle.spirv.specs.Writer.{const, const_id, listed, Given, lent, name, Plan, Silent, Known, Made, Stores, Opens, Closes, planned, first_sign, sign_of, operation, casting, plan_of, clashes}
 use Rattle.spirv.specs.Page.{Page, look_of, wrote, clashed, entered}
 use Rattle.spirv.proofs.Keys.{keys, kinds_of, kind-among}
 

@@ -1,5 +1,5 @@
 -- The entries of a strip are refused with 8 and 9 alone.
-use Rattle.std.proofs.Common.{ℕ, Bool, true, false, cond, eqb, List, [], ◌∷◌, length}
+use Rattle.std.proofs.Common.{ℕ, eqb, List, [], ◌∷◌, length}
 use Rattle.strip.specs.declared.reader.Entry.{Entry}
 use Rattle.strip.specs.declared.reader.Entry.TheVariants as Of
 use Rattle.evaluation.specs.declared.machine.Outcome.{Outcome}

@@ -1,5 +1,5 @@
 -- What the shape test says of a strip's entries, in the form that the simulation takes.
-use Rattle.std.proofs.Common.{◌≡◌, ℕ, zero, suc, ◌+◌, ◌<◌, ◌≤◌, Bool, true, false, cond, not, ◌&&◌, ◌||◌, eqb, leb, List, [], ◌∷◌, ◌++◌, length, sym, refl, ap, ◌∙◌, ap₂, true≢false, arith, eqb-true, leb-true}
+use Rattle.std.proofs.Common.{◌≡◌, ℕ, suc, ◌≤◌, Bool, true, false, cond, not, ◌&&◌, eqb, leb, List, [], ◌∷◌, ◌++◌, length, sym, refl, ◌∙◌, true≢false, arith, eqb-true, leb-true}
 use mathlib.Core.Bool.{false≢true}
 use borrow.Author.Tests.{not-true}
 use Rattle.strip.specs.declared.reader.Entry.{Entry}
@@ -8,7 +8,6 @@ use Rattle.strip.specs.Entry.{kind_of, Each, Formed, wide}
 use Rattle.strip.specs.Shape.{all, count, is_open, is_close, is_end, ends_once, cell_ok, makes, refs_ok, end_alone, closes_last, blocks_ok, strip_ok}
 use Rattle.strip.proofs.Tests.{and_left, and_right}
 use Rattle.spirv.specs.Writer.{Given, const_of, listed}
-use Rattle.spirv.proofs.Entries.{Fair}
 use Rattle.spirv.proofs.Simulation.{FairFrom}
 use Rattle.spirv.proofs.Walk.{nothing_left, blocks}
 

@@ -1,5 +1,5 @@
 -- The shape and the constants in the pass over the bytes: what each turn keeps, and what it comes to.
-use Rattle.std.proofs.Common.{◌≡◌, ℕ, zero, suc, ◌+◌, ◌<◌, ◌≤◌, Bool, true, false, cond, ◌&&◌, eqb, List, [], ◌∷◌, ◌++◌, length, drop, sym, refl, ap, ◌∙◌, ap₂, true≢false, arith, eq-eqb, ne_eqb, eqb-true}
+use Rattle.std.proofs.Common.{◌≡◌, ℕ, ◌+◌, ◌≤◌, Bool, true, false, cond, eqb, List, [], ◌∷◌, length, drop, sym, refl, ap, ◌∙◌, true≢false, arith, eq-eqb, ne_eqb, eqb-true}
 use mathlib.Core.Option.{Option, none, some}
 use mathlib.Core.Bool.{false≢true}
 use borrow.Author.Tests.{eqb-false}
@@ -11,7 +11,7 @@ use Rattle.strip.specs.Entry.{wide, kind_of, read_entry, reads_from}
 use Rattle.strip.specs.Shape.{is_end, grown, joined, cut_at_ends, decode, shape_ok}
 use Rattle.strip.specs.Pass.{Ready, fresh, refused_shape, after, entry_ok, stepped, pass_from}
 use Rattle.strip.specs.Pass as Pass
-use Rattle.strip.proofs.EntryRead.{found, reads-found, reads-stop, reads_none}
+use Rattle.strip.proofs.EntryRead.{reads-found, reads-stop, reads_none}
 use Rattle.strip.proofs.Pass.{pass_shape, ready-fresh, step-ready, left-falls}
 use Rattle.spirv.specs.Writer.{Const, const_of, with_new, constants_from, constants_of}
 use Rattle.spirv.specs.Page.{consts_from, consts_in, Lists, ending, surveyed, survey_from}

@@ -1,40 +1,33 @@
 -- #105's theorem: reading the words of a strip ends as its evaluation does.
-use Rattle.std.proofs.Common.{◌≡◌, ℕ, zero, suc, ◌+◌, ◌<◌, ◌≤◌, Bool, true, false, cond, not, ◌&&◌, ◌||◌, eqb, ltb, leb, List, [], ◌∷◌, ◌++◌, map, length, sym, refl, ap, ◌∙◌, ap₂, true≢false, arith, ltb-true, lt-ltb}
-use mathlib.Core.Option.{Option, none, some, get_or}
+use Rattle.std.proofs.Common.{◌≡◌, ℕ, suc, ◌+◌, ◌<◌, Bool, true, false, cond, ◌&&◌, ◌||◌, eqb, ltb, List, [], ◌∷◌, ◌++◌, length, refl, ap, ◌∙◌, arith, ltb-true}
+use mathlib.Core.Option.{Option}
 use mathlib.Core.Bool.{xor, false≢true}
-use borrow.Author.Tests.{not-true, not-false}
 use Rattle.strip.specs.declared.reader.Entry.{Entry}
 use Rattle.strip.specs.declared.reader.Entry.TheVariants as Of
 use Rattle.strip.specs.Entry.{Each, Formed, wide}
-use Rattle.strip.specs.Shape.{all, strip_ok, decode, shape_ok}
+use Rattle.strip.specs.Shape.{strip_ok}
 use Rattle.strip.proofs.Tests.{and_left, and_right}
-use Rattle.strip.proofs.Encode.{Bytes}
 use Rattle.strip.proofs.Run.{at-most-64}
 use Rattle.evaluation.specs.declared.state.State.{State}
 use Rattle.evaluation.specs.declared.machine.Outcome.{Outcome}
 use Rattle.evaluation.specs.declared.machine.Outcome.TheVariants.{Done, Refused}
-use Rattle.evaluation.specs.declared.machine.Refusal.{Refusal}
 use Rattle.evaluation.specs.declared.machine.Refusal.TheVariants.{BadShape, UndefinedValue, NoConstant}
 use Rattle.evaluation.specs.declared.machine.Evaluated.{Evaluated}
-use Rattle.evaluation.specs.declared.value.Value.{Value}
-use Rattle.evaluation.specs.Machine.{Effect, Push, SetReg, SetPred, SetFlag, Enter, Pass, Finish, Refuse, storing, storing_word, storing_truth, entering, address_words, addressing, bare_effect, cell_effect, one_effect, four_effect, effect_of, muted, taken_effect, outcome_of, applied, begun, is_done, ends, onward, entries_from, strips_from, restored, evaluated}
-use Rattle.evaluation.specs.Machine as Eval
-use Rattle.evaluation.proofs.Laws.{cond-all, with-word, with-truth, with-slot}
-use Rattle.evaluation.proofs.Flat.{evaluated-strips}
-use Rattle.spirv.specs.Instr.{Instr, instr, all_words, instrs_of}
+use Rattle.evaluation.specs.Machine.{begun, ends, onward, entries_from, restored}
+use Rattle.evaluation.proofs.Laws.{cond-all}
+use Rattle.spirv.specs.Instr.{Instr, instr, all_words}
 use Rattle.spirv.specs.declared.opcodes.Op.{Op}
 use Rattle.spirv.specs.declared.opcodes.Op.TheVariants.{Core, Glsl}
 use Rattle.spirv.specs.Opcodes.{op_of}
-use Rattle.spirv.specs.Reading.{Env, Types, Answer, Ended, Stopped, Running, read_from, read_option, meaning}
+use Rattle.spirv.specs.Reading.{Answer, Running, read_from, read_option, meaning}
 use Rattle.spirv.specs.Lent.{role_of, lent_env}
 use Rattle.spirv.specs.declared.plan.Name.{Name}
-use Rattle.spirv.specs.Writer.{Const, Given, lent, name_at, Plan, Silent, Known, Made, Stores, Opens, Closes, planned, operation, casting, plan_of, Midway, instrs_by, after, stepped, body_from, const_instr, const_instrs, constants_of, given_of, start_of, instrs_of_strip, strip_words, next_id, clash_from, table_ok, ids_ok, Written, Words, Refused as Refuses, fitting, strip_answer, only_strip, written}
-use Rattle.spirv.specs.Claim.{stop_of, AgreeOn, Agree, EndsOn, EndsAs}
+use Rattle.spirv.specs.Writer.{Const, Given, lent, name_at, Plan, Silent, Known, Made, Stores, Opens, Closes, planned, operation, casting, plan_of, Midway, instrs_by, stepped, body_from, const_instrs, constants_of, given_of, start_of, instrs_of_strip, strip_words, next_id, clash_from, table_ok, ids_ok, Written, Words, Refused as Refuses, fitting, strip_answer}
+use Rattle.spirv.specs.Claim.{stop_of, AgreeOn, Agree, EndsAs}
 use Rattle.spirv.proofs.Parse.{Coded, read-words}
 use Rattle.spirv.proofs.Ops.{plain, plain-is, plain_op}
-use Rattle.spirv.proofs.Refusals.{Met, entries-meet}
-use Rattle.spirv.proofs.Entries.{World, Fits}
-use Rattle.spirv.proofs.Simulation.{at, sim}
+use Rattle.spirv.proofs.Refusals.{Met}
+use Rattle.spirv.proofs.Simulation.{sim}
 use Rattle.spirv.proofs.Constants.{all_listed, bound_all, consts-read, table_below, table-role, table-free, bound-above, world}
 use Rattle.spirv.proofs.Shaped.{shaped-blocks, shaped-fair}
 

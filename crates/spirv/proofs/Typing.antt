@@ -1,23 +1,22 @@
 -- Evaluation makes values of the kinds that the format says, or undefined ones. (A law of evaluation: it should stand there.)
-use Rattle.std.proofs.Common.{◌≡◌, ℕ, zero, suc, ◌+◌, ◌<◌, ◌≤◌, Bool, true, false, cond, not, ◌&&◌, eqb, ltb, leb, List, [], ◌∷◌, ◌++◌, length, get_or, sym, refl, ap, ◌∙◌, true≢false, arith, ltb-true, eqb-true}
+use Rattle.std.proofs.Common.{◌≡◌, ℕ, zero, suc, ◌+◌, ◌<◌, Bool, true, false, ◌&&◌, eqb, ltb, leb, List, [], ◌∷◌, ◌++◌, length, get_or, refl, ap, arith, ltb-true, eqb-true}
 use mathlib.Core.Bool.{false≢true}
 use Rattle.strip.specs.declared.reader.Entry.{Entry}
 use Rattle.strip.specs.declared.reader.Entry.TheVariants as Of
 use Rattle.strip.specs.Format.{format_of}
 use Rattle.strip.specs.Entry.{kind_of, refs_of, body_of}
-use Rattle.strip.specs.Shape.{all, makes, names, refs_pass}
+use Rattle.strip.specs.Shape.{all, names, refs_pass}
 use Rattle.strip.proofs.Tests.{among, and_left, and_right}
 use Rattle.strip.proofs.Table.{body_number}
 use Rattle.evaluation.specs.declared.value.Value.{Value}
 use Rattle.evaluation.specs.declared.value.Value.TheVariants.{Undefined, Word, Truth, Slot, Address}
-use Rattle.evaluation.specs.declared.machine.Refusal.TheVariants.{UndefinedValue, NoConstant}
-use Rattle.evaluation.specs.declared.machine.Refusal.{Refusal}
+use Rattle.evaluation.specs.declared.machine.Refusal.TheVariants.{UndefinedValue}
 use Rattle.evaluation.specs.Word.{unary_word, binary_word, extract_word, insert_word}
 use Rattle.evaluation.specs.Value.{unary, negated, binary, compared, logic, two, chosen, extracted, three, inserted_value, with_address}
 use Rattle.evaluation.specs.State.{loaded}
-use Rattle.evaluation.specs.Machine.{Effect, Push, SetReg, SetPred, SetFlag, Enter, Pass, Finish, Refuse, Midway, storing_word, storing_truth, storing, entering, address_words, addressing, fetched, bare_effect, cell_effect, one_effect, four_effect, value_at, effect_of}
-use Rattle.evaluation.proofs.Laws.{cond-all, with-word, with-truth, with-slot, address-all}
-use Rattle.spirv.proofs.Keys.{AllOf, keys, kinds_of, kind-among}
+use Rattle.evaluation.specs.Machine.{Effect, Push, SetReg, SetPred, SetFlag, Enter, Pass, Finish, Refuse, Midway, storing_word, storing_truth, storing, entering, fetched, bare_effect, cell_effect, one_effect, four_effect, value_at, effect_of}
+use Rattle.evaluation.proofs.Laws.{cond-all, with-word, with-truth, address-all}
+use Rattle.spirv.proofs.Keys.{keys, kinds_of, kind-among}
 
 -- a value of this kind, or an undefined one
 unfoldable pub has_kind : ℕ → Value → Bool

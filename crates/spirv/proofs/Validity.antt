@@ -1,7 +1,6 @@
 -- The words of an accepted strip have the types that the specification asks for: here 17 is needed.
 use Rattle.std.proofs.Common.{◌≡◌, ℕ, Bool, true, false, cond, ◌&&◌, eqb, List, [], ◌∷◌, refl, true≢false}
 use mathlib.Core.Bool.{xor}
-use Rattle.strip.specs.declared.reader.Entry.TheVariants as Of
 use Rattle.strip.specs.Format.{format_of}
 use Rattle.strip.proofs.Tests.{among}
 use Rattle.spirv.specs.declared.opcodes.Op.{Op}

@@ -1,7 +1,6 @@
 -- The writer's answer by 02's numbers, and what the room holds then.
 use Rattle.std.specs.Prelude.{ℕ, List, ◌++◌, length, drop}
 use Rattle.spirv.specs.declared.answer.Outcome.{Outcome}
-use Rattle.spirv.specs.declared.answer.Outcome.TheVariants as Outcome
 use Rattle.spirv.specs.Writer.{Written, Words, Refused, written}
 
 -- the number, 0 where words are written; how many there are, how many of them are the list of constants, the first free id; and the room

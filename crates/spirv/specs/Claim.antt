@@ -1,6 +1,6 @@
 -- What #105 says of the words: reading them ends as evaluation does where 9 isn't met, 8 standing for an undefined value at the same store, branch
 -- or address.
-use Rattle.std.specs.Prelude.{◌≡◌, ℕ, cond, List, [], ◌∷◌, ◌++◌}
+use Rattle.std.specs.Prelude.{◌≡◌, ℕ, cond, List, [], ◌∷◌}
 use Rattle.strip.specs.declared.reader.Entry.{Entry}
 use Rattle.strip.specs.Shape.{is_open}
 use Rattle.evaluation.specs.declared.state.State.{State}

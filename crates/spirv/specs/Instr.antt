@@ -1,6 +1,6 @@
 -- Instructions of SPIR-V and their words (SPIR-V specification 2.3, 'Physical Layout of a SPIR-V Module and Instruction'): the first word of
 -- an instruction has the number of its words in the upper half and the opcode in the lower half, and its operands follow.
-use Rattle.std.specs.Prelude.{ℕ, zero, suc, ◌+◌, ◌-◌, ◌*◌, ◌/◌, ◌%◌, Bool, cond, List, [], ◌∷◌, ◌++◌, length, take, ◌==◌}
+use Rattle.std.specs.Prelude.{ℕ, zero, suc, ◌+◌, ◌-◌, ◌*◌, ◌/◌, ◌%◌, cond, List, [], ◌∷◌, ◌++◌, length, take, ◌==◌}
 use Rattle.std.proofs.Math.Option.{Option, none, some, map}
 
 pub record Instr : Type 0 where

@@ -1,16 +1,16 @@
 -- Reading SPIR-V words by the meanings of the specification (SPIR-V unified specification, chapter 3; GLSL.std.450). Nothing here knows of
 -- strips. The words are those of a list of constants and of a function's body between its prologue and its end; the environment gives the
 -- ids that the module around them declares. Operations on words and truths are the Khronos definitions of evaluation/specs/Word.antt.
-use Rattle.std.specs.Prelude.{ℕ, zero, suc, ◌+◌, ◌-◌, ◌*◌, Bool, true, false, cond, not, ◌&&◌, ◌||◌, List, [], ◌∷◌, length, ◌==◌, bit_and, bit_or, bit_xor, nat_le, nat_lt, slice_index, slice_index_or}
+use Rattle.std.specs.Prelude.{ℕ, ◌+◌, ◌*◌, Bool, true, false, cond, not, ◌&&◌, ◌||◌, List, [], ◌∷◌, length, ◌==◌, bit_and, bit_or, bit_xor, nat_le, nat_lt, slice_index, slice_index_or}
 use Rattle.std.proofs.Math.Option.{Option, none, some}
 use Rattle.std.specs.Bool.{xor}
 use Rattle.evaluation.specs.declared.value.Value.{Value}
-use Rattle.evaluation.specs.declared.value.Value.TheVariants.{Undefined, Word, Truth, Slot, Address}
+use Rattle.evaluation.specs.declared.value.Value.TheVariants.{Undefined, Word, Truth, Address}
 use Rattle.evaluation.specs.declared.state.State.{State}
 use Rattle.evaluation.specs.State.{stored_reg, stored_pred, stored_flag}
 use Rattle.evaluation.specs.Value.{with_word, with_truth, with_slot, with_address}
 use Rattle.evaluation.specs.Word.{not_word, bit_reverse, bit_count, s_abs, find_smsb, find_umsb, i_add, i_sub, i_mul, shift_left, shift_right, shift_right_arithmetic, u_min, s_min, u_max, s_max, s_less, field, sign_extended, inserted}
-use Rattle.spirv.specs.Instr.{Instr, instr, instrs_of}
+use Rattle.spirv.specs.Instr.{Instr, instrs_of}
 
 -- what an id names
 pub data Thing : Type 0 where

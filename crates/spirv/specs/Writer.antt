@@ -1,11 +1,11 @@
 -- The words of one strip (02, #105): a list of constants, then the body.
-use Rattle.std.specs.Prelude.{ℕ, zero, suc, ◌+◌, ◌-◌, Bool, true, false, cond, not, ◌&&◌, ◌||◌, List, [], ◌∷◌, ◌++◌, map, length, ◌==◌, nat_le, nat_lt, slice_index, slice_index_or}
+use Rattle.std.specs.Prelude.{ℕ, suc, ◌+◌, Bool, true, false, cond, not, ◌&&◌, ◌||◌, List, [], ◌∷◌, ◌++◌, map, length, ◌==◌, nat_le, nat_lt, slice_index, slice_index_or}
 use Rattle.std.proofs.Math.Option.{Option, none, some}
 use Rattle.std.specs.Bool.{xor}
 use Rattle.strip.specs.declared.reader.Entry.{Entry}
 use Rattle.strip.specs.declared.reader.Entry.TheVariants as Of
 use Rattle.strip.specs.Format.{format_of, word}
-use Rattle.strip.specs.Entry.{kind_of, wide}
+use Rattle.strip.specs.Entry.{wide}
 use Rattle.strip.specs.Shape.{all, decode, shape_ok}
 use Rattle.spirv.specs.Instr.{Instr, instr, all_words}
 use Rattle.spirv.specs.declared.opcodes.Op.{Op}

@@ -1,11 +1,11 @@
 -- A run tested block by block: however it is cut, the blocks together say what the whole says.
 use mathlib.Core.Path.{◌≡◌, refl, ap, ap₂, subst, ◌∙◌, sym}
 use mathlib.Core.List.{List, [], ◌∷◌, ◌++◌, append-nil, append_assoc}
-use mathlib.Core.Bool.{Bool, true, false, cond, not, ◌&&◌, and-true, and-false, true≢false, false≢true}
+use mathlib.Core.Bool.{Bool, true, false, cond, not, ◌&&◌, and-false, false≢true}
 use mathlib.Core.Option.{some}
-use Prim.Native.Nat.{ℕ, zero, suc, ◌+◌, ◌-◌, ◌^◌, ◌≤◌, ◌<◌, min}
+use Prim.Native.Nat.{ℕ, suc, ◌+◌, ◌-◌, ◌^◌, ◌≤◌, ◌<◌, min}
 use native.Mathlib.Omega.{arith}
-use native.Mathlib.Nat.{add-zero, zero-add, add_assoc}
+use native.Mathlib.Nat.{add-zero}
 use native.Mathlib.Numerals.{add-one}
 use lib.Dec.{leb, eqb}
 use lib.ListN.{length, get_or, take, drop, set, replicate, length-replicate, length-append, length-take, length-drop, take-append-drop}
@@ -24,7 +24,7 @@ use Rattle.strip.specs.declared.stream.Fed.{Fed}
 use Rattle.strip.specs.Entry.{ref_length, is_cut, read_entry}
 use Rattle.strip.specs.Shape.{decode, shape_ok}
 use Rattle.strip.specs.Pass.{Ready, ready, fresh, refused_shape, values_mask, stepped}
-use Rattle.strip.specs.Steps.{still, ahead, halted, ends, walk}
+use Rattle.strip.specs.Steps.{still, ahead, halted, walk}
 use Rattle.strip.specs.Stream.{pending, padded, stream_of, start_of, refused_stream, stops, waits, going, settled, walked_on, fed, unfed, feed, at_end, then, feeds, concat}
 use Rattle.strip.specs.State.{state_length, state_bytes, state_of}
 use Rattle.strip.proofs.Tests.{and_left, and_right}

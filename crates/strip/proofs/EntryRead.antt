@@ -9,9 +9,7 @@ use lib.ListN.{length, take, drop, get_or, length-drop, length-append, replicate
 use lib.Seq.{take_all, drop-drop}
 use lib.Dec.{eqb}
 use Rattle.strip.specs.declared.format.Body.{Body}
-use Rattle.strip.specs.declared.format.Body.TheVariants as Body
 use Rattle.strip.specs.declared.reader.Entry.{Entry}
-use Rattle.strip.specs.declared.reader.Entry.TheVariants as Entry
 use Rattle.strip.specs.declared.reader.Read.{Read}
 use Rattle.strip.specs.declared.reader.Read.TheVariants.{Found, Stop}
 use Rattle.strip.specs.Format.{format_of}

@@ -1,22 +1,21 @@
 -- One step of the pass, body by body, as the code tests it.
-use mathlib.Core.Path.{◌≡◌, refl, ap, ap₂, ◌∙◌, sym}
+use mathlib.Core.Path.{◌≡◌, refl, ap, ap₂, ◌∙◌}
 use mathlib.Core.List.{List, [], ◌∷◌}
-use mathlib.Core.Bool.{Bool, true, false, cond, not, ◌&&◌, and-true}
-use Prim.Native.Nat.{ℕ, ◌<◌, ◌≤◌}
+use mathlib.Core.Bool.{Bool, true, false, cond, ◌&&◌, and-true}
+use Prim.Native.Nat.{ℕ, ◌<◌}
 use native.Mathlib.Omega.{arith}
 use lib.Dec.{ltb, leb, eqb, leb-zero}
 use borrow.Author.Tests.{ltb-true, lt-ltb, ne_eqb}
 use Rattle.strip.specs.declared.format.Body.{Body}
-use Rattle.strip.specs.declared.format.Body.TheVariants as Body
 use Rattle.strip.specs.declared.reader.Entry.{Entry}
 use Rattle.strip.specs.declared.reader.Entry.TheVariants.{Bare, Word, Cell, Store, One, Two, Three, Four}
 use Rattle.strip.specs.declared.shape.Shape.{Shape}
-use Rattle.strip.specs.Format.{Format, format_of}
-use Rattle.strip.specs.Entry.{kind_of, cells_of, refs_of, body_of}
+use Rattle.strip.specs.Format.{format_of}
+use Rattle.strip.specs.Entry.{kind_of, cells_of, refs_of}
 use Rattle.strip.specs.Shape.{cell_in, cell_ok, refs_pass}
 use Rattle.strip.specs.Pass.{bit_at, values_mask, has, refused_shape, after, entry_ok, stepped, placed, opened, closed}
 use Rattle.strip.specs.Pass as P
-use Rattle.strip.proofs.Table.{least_by, limit_by, operands_by, result_by, least_by_lem, limit-by, operands-by, result-by, no-open, no-close, no_end, one_last, one-low}
+use Rattle.strip.proofs.Table.{least_by_lem, limit-by, operands-by, result-by, no-open, no-close, no_end, one_last, one-low}
 
 -- a step that refuses nothing is what stands for a passed test
 pub taken : (t : Bool) (x h : Shape) → h ≡ cond t x refused_shape → (h.left ≡ 0 → ⊥) → (t ≡ true) × (h ≡ x)

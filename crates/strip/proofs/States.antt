@@ -1,13 +1,13 @@
 -- The state of a test in bytes: what is written there is read back.
-use mathlib.Core.Path.{◌≡◌, refl, ap, ap₂, subst, ◌∙◌, sym}
+use mathlib.Core.Path.{◌≡◌, refl, ap, subst, ◌∙◌}
 use mathlib.Core.List.{List, [], ◌∷◌, ◌++◌, append-nil}
 use mathlib.Core.Bool.{Bool, true, false, cond, not}
-use Prim.Native.Nat.{ℕ, zero, suc, ◌+◌, ◌-◌, ◌*◌, ◌/◌, ◌%◌, ◌^◌, ◌≤◌, ◌<◌}
+use Prim.Native.Nat.{ℕ, suc, ◌+◌, ◌-◌, ◌*◌, ◌/◌, ◌%◌, ◌^◌, ◌≤◌, ◌<◌}
 use native.Mathlib.Omega.{arith}
 use native.Mathlib.Nat.{mod-eq_of_lt}
 use lib.Dec.{eqb}
 use borrow.Author.Tests.{eq-eqb}
-use lib.ListN.{length, get_or, take, drop, set, replicate, length-append, length-set, drop_of_length-le}
+use lib.ListN.{length, get_or, drop, set, replicate, length-append, length-set, drop_of_length-le}
 use lib.Seq.{sets, sets-eq, drop-cons}
 use Rattle.strip.specs.declared.format.Layout.{Layout}
 use Rattle.strip.specs.declared.format.Layout.TheVariants.{Wide, Narrow}

@@ -1,20 +1,17 @@
 -- The steps (`specs/Steps.antt`) decide the shape, over the whole rest of a run and over parts of it.
 use mathlib.Core.Path.{◌≡◌, refl, ap, ap₂, subst, ◌∙◌, sym}
-use mathlib.Core.Logic.{◌↔◌}
 use mathlib.Core.List.{List, [], ◌∷◌, ◌++◌}
 use mathlib.Core.Option.{Option, none, some}
-use mathlib.Core.Bool.{Bool, true, false, cond, ◌&&◌, and-true, and-false, true≢false, false≢true}
-use Prim.Native.Nat.{ℕ, zero, suc, pred, ◌+◌, ◌-◌, ◌≤◌, ◌<◌}
+use mathlib.Core.Bool.{Bool, true, false, cond, ◌&&◌, and-false, false≢true}
+use Prim.Native.Nat.{ℕ, zero, suc, pred, ◌+◌, ◌-◌, ◌≤◌}
 use native.Mathlib.Omega.{arith}
 use native.Mathlib.Nat.{add-zero, zero-add, add_assoc}
-use lib.ListN.{length, drop, length-append, length-drop}
+use lib.ListN.{length, drop, length-drop}
 use lib.Seq.{drop-append-le, drop-drop}
-use lib.Dec.{ltb, leb, eqb}
+use lib.Dec.{eqb}
 use borrow.Author.Tests.{eqb-true, eqb-false, eq-eqb, ne_eqb}
 use Rattle.strip.specs.declared.format.Body.{Body}
-use Rattle.strip.specs.declared.format.Body.TheVariants as Body
 use Rattle.strip.specs.declared.reader.Entry.{Entry}
-use Rattle.strip.specs.declared.reader.Entry.TheVariants as Entry
 use Rattle.strip.specs.declared.reader.Read.{Read}
 use Rattle.strip.specs.declared.reader.Read.TheVariants.{Found, Stop}
 use Rattle.strip.specs.declared.shape.Shape.{Shape}
@@ -26,7 +23,7 @@ use Rattle.strip.specs.Shape.{is_end, grown, joined, cut_at_ends, decode, shape_
 use Rattle.strip.specs.Pass.{Ready, ready, fresh, refused_shape, after, entry_ok, stepped, pass_from}
 use Rattle.strip.specs.Pass as P
 use Rattle.strip.specs.Steps.{still, step_by, step_or, step, step_part, steps, ahead, halted, ends, end_of, onward, walk_from, walk}
-use Rattle.strip.proofs.EntryRead.{Taken, found, unknown-stops, read_more, reads-found, reads-stop, reads_none}
+use Rattle.strip.proofs.EntryRead.{Taken, found, unknown-stops, read_more, reads-found, reads-stop}
 use Rattle.strip.proofs.Pass.{pass_shape, pass-stop, pass-refused, pass-taken, ready-fresh, ready-none, ready-is, is-ready, step-ready, left-falls}
 use Rattle.strip.proofs.Tests.{and_left}
 

@@ -1,5 +1,5 @@
 -- The state of a test block by block (02, #103) in bytes, for a C caller to lend: numbers in so many bytes, little-endian.
-use Rattle.std.specs.Prelude.{ℕ, List, [], ◌∷◌, ◌++◌, Bool, cond, not, length, get_or, take, drop, eqb}
+use Rattle.std.specs.Prelude.{ℕ, List, ◌++◌, cond, not, length, get_or, take, drop, eqb}
 use Rattle.strip.specs.declared.format.Layout.{Layout}
 use Rattle.strip.specs.declared.format.Layout.TheVariants.{Wide, Narrow}
 use Rattle.strip.specs.declared.stream.Stream.{Stream}

@@ -1,6 +1,6 @@
 -- The shape test by steps (02, #103). A step is given a state of fixed size and only the bytes not yet passed; it hands back the next state and
 -- how many bytes it passed. That the steps end in `shape_ok` is proved (proofs/Steps.antt), so a reader need not believe this page.
-use Rattle.std.specs.Prelude.{ℕ, zero, suc, pred, ◌+◌, List, [], ◌∷◌, Bool, cond, drop, eqb}
+use Rattle.std.specs.Prelude.{ℕ, zero, suc, pred, ◌+◌, List, [], ◌∷◌, cond, drop, eqb}
 use Rattle.strip.specs.declared.reader.Entry.{Entry}
 use Rattle.strip.specs.declared.reader.Entry.TheVariants.{Bare, Word, Cell, Store, One, Two, Three, Four}
 use Rattle.strip.specs.declared.reader.Read.{Read}

@@ -1,13 +1,13 @@
 -- A helper that takes carries, case by case.
 use mathlib.Core.Path.{◌≡◌, refl, subst}
 use mathlib.Core.Bool.{Bool, true, false, ◌||◌, true≢false}
-use mathlib.Core.List.{List, [], ◌∷◌, ◌++◌}
+use mathlib.Core.List.{[], ◌∷◌, ◌++◌}
 use Prim.Native.Nat.{ℕ}
 use Rattle.strip.specs.declared.reader.Entry.TheVariants as Entry
 use Rattle.translation.specs.declared.helper.Carry.{Carry}
 use Rattle.translation.specs.declared.helper.Carry.TheVariants.{None, Word}
 use Rattle.translation.specs.Helpers.{set_cc, set_sum_cc, add_with_flags}
-use Rattle.translation.specs.Emit.{Buffer, Value, Summed, made, carry_added, Makes, Writes, Does, is_given, words, or_else}
+use Rattle.translation.specs.Emit.{Buffer, Value, Summed, carry_added, Makes, Writes, Does, is_given, words, or_else}
 use Rattle.translation.proofs.Follow.{by-ret, by-op, by-act, by_call, by-yes, by-no}
 
 -- `set_cc`: the four flags are stored, of the words that are given

@@ -1,10 +1,9 @@
 -- The answer tells what was decided: 01's number tells the case, so from the contract of `translate` on whoever asks may speak of either.
-use mathlib.Core.Path.{◌≡◌, refl, ap, ap₂, ◌∙◌, sym}
+use mathlib.Core.Path.{◌≡◌, refl, ap, ◌∙◌, sym}
 use mathlib.Core.List.{List}
 use Prim.Native.Nat.{ℕ, zero, suc}
 use Rattle.translation.specs.declared.answer.Outcome.{Outcome}
 use Rattle.translation.specs.declared.answer.Outcome.TheVariants.{Written, Refused}
-use Rattle.translation.specs.declared.answer.Refusal.{Refusal}
 use Rattle.translation.specs.declared.answer.Refusal.TheVariants.{BadLength, UnknownKind, UnknownForm, SystemValueMov, ByteThree, NoRoom}
 use Rattle.translation.specs.declared.answer.Translated.{Translated}
 use Rattle.translation.specs.Strip.{Decision, Answer, refusal_number, number_of, length_of, decision, answer_of, translation}

@@ -1,17 +1,16 @@
 -- As long as it is short, what code emits is what it builds: the bytes of its entries, one after another, and the numbers.
 use mathlib.Core.Path.{◌≡◌, refl, sym, ap, ◌∙◌}
-use mathlib.Core.Bool.{Bool, true, false}
+use mathlib.Core.Bool.{true, false}
 use mathlib.Core.List.{List, [], ◌∷◌, ◌++◌, append_assoc}
-use Prim.Native.Nat.{ℕ, zero, suc, ◌+◌, ◌*◌, ◌%◌, ◌≤◌, max}
+use Prim.Native.Nat.{ℕ, suc, ◌+◌, ◌%◌, ◌≤◌, max}
 use native.Mathlib.Omega.{arith}
 use lib.ListN.{length, length-append}
 use lib.Seq.{sets}
 use Rattle.strip.specs.declared.reader.Entry.{Entry}
-use Rattle.strip.specs.declared.reader.Entry.TheVariants as Entry
 use Rattle.strip.specs.Entry.{kind_of, refs_of, wide, immediate_of, encode}
 use Rattle.strip.specs.Shape.{strip_bytes}
 use Rattle.strip.proofs.Write.{sets-append}
-use Rattle.translation.specs.Code.{Code, ret, op, act, call, mark, ite, renamed, at as level, ats, Built, build}
+use Rattle.translation.specs.Code.{Code, ret, op, act, call, mark, ite, renamed, at as level, ats, build}
 use Rattle.translation.specs.Emit.{Buffer, Value, wrote, made, raised, emits}
 
 -- ---- bytes

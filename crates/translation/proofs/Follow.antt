@@ -5,7 +5,7 @@ use mathlib.Core.List.{List, [], ◌∷◌, ◌++◌}
 use Prim.Native.Nat.{ℕ}
 use Rattle.strip.specs.declared.reader.Entry.{Entry}
 use Rattle.translation.specs.Code.{Code, ret, op, act, call, mark, ite, renamed, at as level, ats}
-use Rattle.translation.specs.Emit.{Buffer, Value, wrote, made, raised, emits, Makes, Writes, Raises, Does}
+use Rattle.translation.specs.Emit.{Buffer, Value, emits, Makes, Writes, Raises, Does}
 
 pub by-ret : {b : Buffer} {l : ℕ} {rs : List ℕ} → Does b (record { buffer = b; number = level rs l }) (ret l) rs
 unfolding emits

@@ -1,22 +1,21 @@
 -- Numbers in range: every cell, slot and note that code names lies in the range of its kind, and every word has 32 bits.
-use mathlib.Core.Path.{◌≡◌, refl, sym, ap, ◌∙◌}
+use mathlib.Core.Path.{◌≡◌, refl}
 use mathlib.Core.Bool.{Bool, true, false, cond, not, ◌&&◌, ◌||◌, false≢true}
 use mathlib.Core.List.{List, [], ◌∷◌, ◌++◌}
-use Prim.Native.Nat.{ℕ, zero, suc, ◌+◌, ◌-◌, ◌*◌, ◌/◌, ◌%◌, ◌^◌, ◌≤◌, ◌<◌}
+use Prim.Native.Nat.{ℕ, suc, ◌+◌, ◌-◌, ◌*◌, ◌/◌, ◌%◌, ◌^◌, ◌<◌}
 use native.Mathlib.Omega.{arith}
 use lib.Dec.{eqb, ltb, leb}
 use lib.Pow.{pow_pos, pow-lt, pow-sub-lt, ones_sub-lt}
 use native.Mathlib.Nat.{mod-lt}
 use borrow.Author.Tests.{ltb-true, lt-ltb, le-leb, eqb-false}
 use Rattle.strip.specs.declared.reader.Entry.{Entry}
-use Rattle.strip.specs.declared.reader.Entry.TheVariants as Entry
 use Rattle.strip.specs.Format.{format_of}
 use Rattle.strip.specs.Entry.{kind_of, cells_of}
-use Rattle.strip.specs.Shape.{all, cell_in, cell_ok}
+use Rattle.strip.specs.Shape.{all, cell_ok}
 use Rattle.strip.proofs.Tests.{and_left, and_right}
 use Rattle.strip.proofs.Run.{all_append}
 use Rattle.translation.specs.Insn.{Insn, bits, bit, simm20}
-use Rattle.translation.specs.Code.{Code, ret, op, act, call, mark, ite, renamed, at, ats, Built, build}
+use Rattle.translation.specs.Code.{Code, ret, op, act, call, mark, ite, renamed, at, ats, build}
 use Rattle.translation.specs.Helpers.{r, set, predicate, setp, b2u, cbuf_at, cbuf_imm, table_bit, extract, field, half16, video_operand, int_source, width_of, highest, lowest, clamp_high, saturate_by, saturate_int}
 use Rattle.translation.specs.Arms.{truth_word, vmnmx_imm, p2r_keep, lea_reg, lea_cbuf, lea_shift, predicate_mask, asked, cell_bit, store_cell, r2p_turn, load_cell, p2r_turn}
 

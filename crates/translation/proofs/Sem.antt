@@ -9,11 +9,10 @@ use lib.ListN.{length, length-append, get_or-append}
 use lib.Seq.{get_or-append_seam}
 use borrow.Author.Tests.{ltb-true, lt-ltb, eqb-true, not-true}
 use Rattle.strip.specs.declared.reader.Entry.{Entry}
-use Rattle.strip.specs.declared.reader.Entry.TheVariants as Entry
 use Rattle.strip.specs.Entry.{refs_of, Each}
 use Rattle.strip.proofs.Tests.{and_left, and_right}
 use Rattle.evaluation.specs.declared.value.Value.{Value}
-use Rattle.evaluation.specs.declared.value.Value.TheVariants.{Undefined, Word, Truth}
+use Rattle.evaluation.specs.declared.value.Value.TheVariants.{Undefined, Truth}
 use Rattle.evaluation.specs.declared.state.State.{State}
 use Rattle.evaluation.specs.declared.machine.Outcome.TheVariants.{Refused}
 use Rattle.evaluation.specs.declared.machine.Refusal.{Refusal}

@@ -9,7 +9,6 @@ use lib.ListN.{length, get_or, set, length-set}
 use lib.Seq.{get_or-set_same, get_or-set_other, set_out}
 use borrow.Author.Tests.{ltb-true, ltb-false, eqb-true, eqb-false}
 use Rattle.strip.specs.declared.reader.Entry.{Entry}
-use Rattle.strip.specs.declared.reader.Entry.TheVariants as Entry
 use Rattle.strip.proofs.Tests.{and_left, and_right}
 use Rattle.evaluation.specs.declared.value.Value.{Value}
 use Rattle.evaluation.specs.declared.value.Value.TheVariants.{Undefined, Word, Truth, Slot, Address}
@@ -19,7 +18,7 @@ use Rattle.evaluation.specs.State.{loaded, stored_reg, stored_pred, stored_flag}
 use Rattle.evaluation.specs.Machine.{addressing, Effect, Push, SetReg, SetPred, SetFlag, Enter, Pass, Finish, Refuse, storing_word, storing_truth, storing, entering, fetched, bare_effect, cell_effect, one_effect, four_effect, value_at, effect_of}
 use Rattle.evaluation.proofs.Words.{Sized, word-sized, undefined-sized, unary-sized, binary-sized, extract-sized, insert-sized}
 use Rattle.evaluation.specs.declared.machine.Refusal.TheVariants.{UndefinedValue}
-use Rattle.evaluation.proofs.Laws.{cond-all, with-word, with-truth, address-cases}
+use Rattle.evaluation.proofs.Laws.{cond-all, with-truth, address-cases}
 use Rattle.translation.specs.Code.{Code, ret, op, act, call, mark, ite}
 use Rattle.translation.proofs.InRange.{fits, word_in, in_range, taken, left_out}
 use Rattle.translation.proofs.Sem.{Ran, ran, halted, mid, pushing, acting, followed, values_at, sem}

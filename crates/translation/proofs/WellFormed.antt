@@ -6,14 +6,12 @@ use Prim.Native.Nat.{ℕ, suc, ◌+◌, ◌^◌, ◌≤◌, ◌<◌}
 use native.Mathlib.Omega.{arith}
 use lib.Dec.{eqb, ltb, leb}
 use lib.ListN.{length, get_or, length-append}
-use borrow.Author.Tests.{ltb-true, leb-true, le-leb, eqb-true, eq-eqb, not-true}
+use borrow.Author.Tests.{ltb-true, leb-true, le-leb, eqb-true, not-true}
 use Rattle.strip.specs.declared.format.Body.{Body}
-use Rattle.strip.specs.declared.format.Body.TheVariants as Body
 use Rattle.strip.specs.declared.reader.Entry.{Entry}
-use Rattle.strip.specs.declared.reader.Entry.TheVariants as Entry
-use Rattle.strip.specs.Format.{Format, format_of}
+use Rattle.strip.specs.Format.{format_of}
 use Rattle.strip.specs.Entry.{kind_of, cells_of, refs_of, body_of, wide, Each, Bounded, Formed}
-use Rattle.strip.specs.Shape.{all, count, is_open, is_close, is_end, ends_once, cell_in, cell_ok, makes, names, refs_pass, refs_ok, end_alone, closes_last, blocks_ok, strip_ok}
+use Rattle.strip.specs.Shape.{all, count, is_open, is_close, is_end, ends_once, cell_in, cell_ok, makes, names, refs_pass, refs_ok, closes_last, blocks_ok, strip_ok}
 use Rattle.strip.proofs.Tests.{and_left, and_right}
 use Rattle.strip.proofs.Table.{every-format, body_number}
 use Rattle.strip.proofs.Run.{all_append, refs-fit}

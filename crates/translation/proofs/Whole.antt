@@ -9,7 +9,6 @@ use lib.ListN.{length, set as replace, get_or, drop, length-append}
 use lib.Seq.{sets, sets-eq, paste, paste-suc, take-append_seam}
 use borrow.Author.Tests.{le-leb, lt-leb}
 use Rattle.strip.specs.declared.reader.Entry.{Entry}
-use Rattle.strip.specs.declared.reader.Entry.TheVariants as Entry
 use Rattle.strip.specs.Entry.{kind_of, refs_of, wide, immediate_of, encode}
 use Rattle.strip.specs.Shape.{strip_bytes}
 use Rattle.strip.proofs.Write.{sets-append}

@@ -1,9 +1,9 @@
 -- The thirty arms of `op`, in the Rust's order of evaluation (translate.rs). Bits are named by their place in the word.
-use Rattle.std.specs.Prelude.{Bool, true, false, cond, not, ◌&&◌, ◌||◌, List, [], ◌∷◌, ℕ, ◌+◌, ◌-◌, ◌*◌, ◌/◌, ◌%◌, ◌^◌, eqb, ltb}
+use Rattle.std.specs.Prelude.{Bool, true, false, cond, not, ◌&&◌, ◌||◌, ℕ, ◌+◌, ◌-◌, ◌*◌, ◌%◌, ◌^◌, eqb, ltb}
 use Rattle.std.specs.Bool.{beq}
 use Rattle.translation.specs.Insn.{Insn, bits, bit, rd, ra, rb, rc, imm32, simm20, cslot, cword}
 use Rattle.translation.specs.Code.{Code, ite}
-use Rattle.translation.specs.Notation.{Mk, Line, val, eff, fn, uses, ◌>>=◌, ◌>>◌, pure, fn0, fn1, fn2, fn3, fn4, fn5, fn0!, fn1!, fn2!, fn3!, fn4!, fn5!, same, u, btrue, constant_false, cc_flag, store_pred, store_flag, unsupported, bit_reverse, bit_count, cast_i, cast_u, s_abs, find_smsb, find_umsb, logical_not, i_add, i_sub, i_mul, shift_left_logical, shift_right_logical, bitwise_and, bitwise_or, bitwise_xor, u_min, s_min, u_max, s_max, i_equal, i_not_equal, s_less_than, select, bit_field_insert}
+use Rattle.translation.specs.Notation.{◌>>=◌, ◌>>◌, pure, fn0, fn1, fn2, fn3, fn4, fn5, fn0!, fn1!, fn2!, fn3!, fn4!, fn5!, same, u, btrue, constant_false, cc_flag, store_pred, store_flag, unsupported, bit_reverse, bit_count, cast_i, cast_u, s_abs, find_smsb, find_umsb, logical_not, i_add, i_sub, i_mul, shift_left_logical, shift_right_logical, bitwise_and, bitwise_or, bitwise_xor, u_min, s_min, u_max, s_max, i_equal, i_not_equal, s_less_than, select, bit_field_insert}
 use Rattle.translation.specs.Helpers.{r, set, p, predicate, setp, b2u, cbuf_imm, src_b, src_bc, inot, ineg, set_cc_if, carry_sum, saturate_add, bool_op, int_cmp, cc_test, shift, lop3, table_bit, extract, half16, half_select, video_operand, int_source, saturate_int}
 
 -- ---- moves and choices

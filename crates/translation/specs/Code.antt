@@ -2,7 +2,6 @@
 -- first, then each value that it makes and each helper's result. Calls keep levels apart, so code is closed.
 use Rattle.std.specs.Prelude.{Bool, true, false, List, [], ◌∷◌, ◌++◌, ℕ, suc, get_or}
 use Rattle.strip.specs.declared.reader.Entry.{Entry}
-use Rattle.strip.specs.declared.reader.Entry.TheVariants as Entry
 
 pub data Code : Type 0 where
   -- hand back a level

@@ -1,9 +1,8 @@
 -- What the code does to its buffer: the bytes of each entry go where the last ended, and positions and numbers are counted modulo 256. That this
 -- is what `build` builds, as no strip is so long, is proved once for all code, so a reader need not believe this page.
-use Rattle.std.specs.Prelude.{◌≡◌, refl, Bool, true, false, List, [], ◌∷◌, ◌++◌, ℕ, ◌+◌, ◌*◌, ◌%◌, length}
+use Rattle.std.specs.Prelude.{◌≡◌, Bool, true, false, List, [], ◌∷◌, ◌++◌, ℕ, ◌+◌, ◌*◌, ◌%◌, length}
 use Rattle.std.proofs.lemmas.List.Edits.{sets}
 use Rattle.strip.specs.declared.reader.Entry.{Entry}
-use Rattle.strip.specs.declared.reader.Entry.TheVariants as Entry
 use Rattle.strip.specs.Entry.{wide, encode}
 use Rattle.translation.specs.declared.writer.Pos.{Pos}
 use Rattle.translation.specs.declared.writer.Made.{Made}

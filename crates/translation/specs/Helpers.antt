@@ -1,9 +1,9 @@
 -- The Rust's helpers, one definition each, in its order of evaluation (translate.rs). Where the Rust returns an unchanged word, the code hands back
 -- its argument; where it returns nothing, the word that it was given.
-use Rattle.std.specs.Prelude.{Bool, true, false, cond, not, ◌&&◌, ◌||◌, List, [], ◌∷◌, ℕ, ◌+◌, ◌-◌, ◌*◌, ◌/◌, ◌%◌, ◌^◌, eqb, ltb}
-use Rattle.translation.specs.Insn.{Insn, bits, bit, rb, rc, simm20, cslot, cword}
+use Rattle.std.specs.Prelude.{Bool, true, false, cond, not, ◌&&◌, ◌||◌, ℕ, ◌+◌, ◌-◌, ◌*◌, ◌/◌, ◌%◌, ◌^◌, eqb, ltb}
+use Rattle.translation.specs.Insn.{Insn, rb, rc, simm20, cslot, cword}
 use Rattle.translation.specs.Code.{Code, ite}
-use Rattle.translation.specs.Notation.{Mk, Line, val, eff, fn, uses, ◌>>=◌, ◌>>◌, pure, fn0, fn1, fn2, fn3, fn4, fn5, fn0!, fn1!, fn2!, fn3!, fn4!, fn5!, same, u, btrue, constant_false, load_reg, load_pred, cc_flag, store_reg, store_pred, store_flag, cbuf_var, access_chain, load_at, unsupported, bitwise_not, cast_i, cast_u, logical_not, i_add, i_sub, shift_left_logical, shift_right_logical, shift_right_arithmetic, bitwise_and, bitwise_or, bitwise_xor, u_min, s_min, u_max, s_max, i_equal, i_not_equal, u_less_than, u_less_than_equal, u_greater_than, u_greater_than_equal, s_less_than, s_less_than_equal, s_greater_than, s_greater_than_equal, logical_and, logical_or, logical_not_equal, select, bit_field_uextract, bit_field_sextract}
+use Rattle.translation.specs.Notation.{Mk, uses, ◌>>=◌, ◌>>◌, pure, fn0, fn1, fn2, fn3, fn4, fn5, fn0!, fn1!, fn2!, fn3!, fn4!, fn5!, same, u, btrue, constant_false, load_reg, load_pred, cc_flag, store_reg, store_pred, store_flag, cbuf_var, access_chain, load_at, unsupported, bitwise_not, cast_i, cast_u, logical_not, i_add, i_sub, shift_left_logical, shift_right_logical, shift_right_arithmetic, bitwise_and, bitwise_or, bitwise_xor, u_min, s_min, s_max, i_equal, i_not_equal, u_less_than, u_less_than_equal, u_greater_than, u_greater_than_equal, s_less_than, s_less_than_equal, s_greater_than, s_greater_than_equal, logical_and, logical_or, logical_not_equal, select, bit_field_uextract, bit_field_sextract}
 
 -- ---- registers, predicates, constants
 

@@ -1,5 +1,5 @@
 -- The use marks that code raises: the Rust's `cbuf_used`, one for each slot.
-use Rattle.std.specs.Prelude.{Bool, true, false, List, ℕ, max, get_or, set}
+use Rattle.std.specs.Prelude.{true, false, List, ℕ, max, get_or, set}
 use Rattle.translation.specs.Code.{Code, ret, op, act, call, mark, ite}
 
 -- slot s is used up to n bytes

@@ -1,9 +1,8 @@
 -- How code is written: in do-notation, as the Rust is, with names for levels. `fn2 λ a b. do ..` is code of two arguments. The operations have
 -- the names of the Rust's builder, in its spelling without underscores.
-use Rattle.std.specs.Prelude.{Bool, List, [], ◌∷◌, ℕ, suc}
+use Rattle.std.specs.Prelude.{List, [], ◌∷◌, ℕ, suc}
 use Rattle.strip.specs.declared.reader.Entry.{Entry}
-use Rattle.strip.specs.declared.reader.Entry.TheVariants as Entry
-use Rattle.translation.specs.Code.{Code, ret, op, act, call, mark, ite}
+use Rattle.translation.specs.Code.{Code, ret, op, act, call, mark}
 
 -- code that begins at a level
 abbrev pub Mk : Type 0

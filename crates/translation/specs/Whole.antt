@@ -5,7 +5,7 @@ use Rattle.strip.specs.declared.reader.Entry.TheVariants as Entry
 use Rattle.translation.specs.Insn.{Insn}
 use Rattle.translation.specs.Helpers.{p}
 use Rattle.translation.specs.Arms.{arm_of}
-use Rattle.translation.specs.Emit.{Buffer, Value, wrote, emits}
+use Rattle.translation.specs.Emit.{Buffer, wrote, emits}
 use Rattle.translation.specs.Strip.{Decision, guard, guard_not, never_runs}
 use Rattle.translation.specs.declared.answer.Translated as D
 use Rattle.translation.specs.declared.answer.Refusal.{Refusal}

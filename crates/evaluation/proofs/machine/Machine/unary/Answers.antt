@@ -1,0 +1,40 @@
+use Rattle.std.proofs.Common.{◌<◌, sym, refl, ap, ◌∙◌, rules}
+use Rattle.strip.specs.Entry.{kind_of}
+use Rattle.strip.specs.Pass.{values_mask, has, placed}
+use Rattle.strip.proofs.EntryStep.{step-unary}
+use Rattle.strip.proofs.Table.{no_end}
+use Rattle.evaluation.specs.Machine.{Push, effect_of, one_effect}
+use Rattle.evaluation.proofs.Progress.{Named, one-named, refuses, makes}
+use Rattle.evaluation.proofs.machine.Machine.unary.Goals as goal
+
+pub unary-g-requires : goal.unary-g-requires
+unfolding effect_of one_effect values_mask kind_of
+unary-g-requires c = search rules
+
+pub passed-requires : goal.passed-requires
+unfolding effect_of one_effect values_mask kind_of
+passed-requires c = search rules
+
+pub returns-then-left-eq0 : goal.returns-then-left-eq0
+unfolding effect_of one_effect values_mask kind_of
+returns-then-left-eq0 c = let h : c.args.k < 256 = search rules in let b = c.requires.1.0 in λ s cs. refuses _ _ _ _ cs s _ _ c.passed.ensures _ (c.unary-g.ensures ∙ sym (step-unary _ _ h b c.requires.1.1.0 c.requires.1.1.1.0 c.requires.1.1.1.1 _)) c.if-left-eq0.true
+
+pub value_at-v-requires : goal.value_at-v-requires
+unfolding effect_of one_effect values_mask kind_of
+value_at-v-requires c =
+    let kept : Named c.args.self.shape c.args.a = one-named c.args.self.shape c.requires.0.0 (placed c.args.self.shape 1) _ c.if-left-eq0.false 1 c.args.a c.unary-g.ensures in
+    (kept.1.1, c.requires.0.1)
+
+pub unary-requires : goal.unary-requires
+unfolding effect_of one_effect values_mask kind_of
+unary-requires c = search rules
+
+pub push-requires : goal.push-requires
+unfolding effect_of one_effect values_mask kind_of
+push-requires c = search rules
+
+pub returns : goal.returns
+unfolding effect_of one_effect values_mask kind_of
+returns c =
+    let kept : Named c.args.self.shape c.args.a = one-named c.args.self.shape c.requires.0.0 (placed c.args.self.shape 1) _ c.if-left-eq0.false 1 c.args.a c.unary-g.ensures in
+    let h : c.args.k < 256 = search rules in let b = c.requires.1.0 in let x = kept in λ s cs. makes _ _ _ _ cs s _ _ c.push.ensures.0 (has c.args.self.shape 1 c.args.a) 1 c.unary-g.ensures refl (step-unary _ _ h b c.requires.1.1.0 c.requires.1.1.1.0 c.requires.1.1.1.1 _) (no_end _ h (rw b refl)) _ _ _ c.push.ensures.1 (λ t. rw (c.requires.1.1.0, c.requires.1.1.1.0, c.requires.1.1.1.1, ← c.value_at-v.ensures _ x.0 x.1.0) (ap Push (sym c.unary.ensures)))

@@ -1,0 +1,60 @@
+use Rattle.std.proofs.Common.{ap, rules, ne_eqb}
+use Rattle.evaluation.specs.declared.value.Value.TheVariants.{Word}
+use Rattle.evaluation.specs.Word.{not_word, unary_word}
+use Rattle.evaluation.proofs.word.unary_word.Goals as goal
+
+pub bit_reverse-requires : goal.bit_reverse-requires
+unfolding unary_word not_word
+bit_reverse-requires c = search rules
+
+pub bit_count-requires : goal.bit_count-requires
+unfolding unary_word not_word
+bit_count-requires c = search rules
+
+pub s_abs-requires : goal.s_abs-requires
+unfolding unary_word not_word
+s_abs-requires c = search rules
+
+pub find_s_msb-requires : goal.find_s_msb-requires
+unfolding unary_word not_word
+find_s_msb-requires c = search rules
+
+pub find_u_msb-requires : goal.find_u_msb-requires
+unfolding unary_word not_word
+find_u_msb-requires c = search rules
+
+pub returns-in-20 : goal.returns-in-20
+unfolding unary_word not_word
+returns-in-20 c = rw c.in-20.is
+
+pub returns-in-21 : goal.returns-in-21
+unfolding unary_word not_word
+returns-in-21 c = rw c.in-21.is (ap Word c.bit_reverse.ensures)
+
+pub returns-in-22 : goal.returns-in-22
+unfolding unary_word not_word
+returns-in-22 c = rw c.in-22.is (ap Word c.bit_count.ensures)
+
+pub returns-in-23 : goal.returns-in-23
+unfolding unary_word not_word
+returns-in-23 c = rw c.in-23.is
+
+pub returns-in-24 : goal.returns-in-24
+unfolding unary_word not_word
+returns-in-24 c = rw c.in-24.is
+
+pub returns-in-25 : goal.returns-in-25
+unfolding unary_word not_word
+returns-in-25 c = rw c.in-25.is (ap Word c.s_abs.ensures)
+
+pub returns-in-26 : goal.returns-in-26
+unfolding unary_word not_word
+returns-in-26 c = rw c.in-26.is (ap Word c.find_s_msb.ensures)
+
+pub returns-in-27 : goal.returns-in-27
+unfolding unary_word not_word
+returns-in-27 c = rw c.in-27.is (ap Word c.find_u_msb.ensures)
+
+pub returns-in_default : goal.returns-in_default
+unfolding unary_word not_word
+returns-in_default c = simp (ne_eqb _ _ c.in_default.in_default-own.rest.1, ne_eqb _ _ c.in_default.in_default-own.rest.0.1, ne_eqb _ _ c.in_default.in_default-own.rest.0.0.1, ne_eqb _ _ c.in_default.in_default-own.rest.0.0.0.1, ne_eqb _ _ c.in_default.in_default-own.rest.0.0.0.0.1, ne_eqb _ _ c.in_default.in_default-own.rest.0.0.0.0.0.1, ne_eqb _ _ c.in_default.in_default-own.rest.0.0.0.0.0.0.1, ne_eqb _ _ c.in_default.in_default-own.rest.0.0.0.0.0.0.0.1)

@@ -1,0 +1,41 @@
+use mathlib.Core.Path.{ap, ◌∙◌}
+use mathlib.Core.List.{List}
+use Prim.Native.Nat.{ℕ}
+use native.Mathlib.Omega.{arith}
+use borrow.Author.Tests.{lt-ltb, le-ltb}
+use Rattle.reach.specs.Rows.{join_row, copy_row, rows_stored}
+use Rattle.reach.proofs.Lists.{owned-sized}
+use borrow.Author.Rules.{rules}
+use Rattle.reach.proofs.rows.store.Goals as goal
+
+pub returns-then-c-ge298 : goal.returns-then-c-ge298
+unfolding rows_stored
+returns-then-c-ge298 c = rw (le-ltb _ 298 c.if-c-ge298.true)
+
+pub own-requires : goal.own-requires
+unfolding rows_stored
+own-requires c = search rules
+
+pub join-requires : goal.join-requires
+unfolding rows_stored
+join-requires c = (rw c.own.ensures (owned-sized _ _ c.requires), (omega (arith, c.if-c-ge298.false), omega arith))
+
+pub copy-requires : goal.copy-requires
+unfolding rows_stored
+copy-requires c = (rw c.own.ensures (owned-sized _ _ c.requires), (omega (arith, c.if-c-ge298.false), omega arith))
+
+pub shape_of-rows-then-block : goal.shape_of-rows-then-block
+unfolding rows_stored
+shape_of-rows-then-block c = search rules
+
+pub returns-then-block : goal.returns-then-block
+unfolding rows_stored
+returns-then-block c = rw (lt-ltb _ 298 c.if-c-ge298.false, c.if-block.true) (c.join.ensures ∙ ap (λ (z : List ℕ). join_row z c.args.c 298) c.own.ensures)
+
+pub shape_of-rows-else-block : goal.shape_of-rows-else-block
+unfolding rows_stored
+shape_of-rows-else-block c = search rules
+
+pub returns-else-block : goal.returns-else-block
+unfolding rows_stored
+returns-else-block c = rw (lt-ltb _ 298 c.if-c-ge298.false, c.if-block.false) (c.copy.ensures ∙ ap (λ (z : List ℕ). copy_row z c.args.c 298) c.own.ensures)

@@ -1,0 +1,73 @@
+use mathlib.Core.Path.{◌≡◌, ◌∙◌, ap, sym}
+use native.Mathlib.Omega.{arith}
+use lib.ListN.{length-drop}
+use Rattle.strip.specs.declared.shape.Shape.{Shape}
+use Rattle.strip.specs.declared.reader.Read.TheVariants.{Found}
+use Rattle.strip.specs.Entry.{ref_length, read_entry}
+use Rattle.strip.specs.Pass.{stepped}
+use Rattle.strip.specs.Steps.{walk}
+use Rattle.strip.proofs.EntryRead.{Taken, found, part-rest}
+use Rattle.strip.proofs.Steps.{end-of-few, end-of-is, walking_start, walking-stop, walking-end, walking-refused, walking_on}
+use Rattle.strip.proofs.shape.walk.Goals as goal
+
+pub loop-rest-init : goal.loop-rest-init
+loop-rest-init c = walking_start _ _ _ (rw c.copied-g.ensures c.requires)
+
+pub overflow_sub-result : goal.overflow_sub-result
+overflow_sub-result c = c.loop-rest.invariant.within
+
+pub returns-in_default : goal.returns-in_default
+returns-in_default c =
+    let given : walk (ref_length c.args.layout) c.copied-g.result c.args.part.now ≡ walk (ref_length c.args.layout) c.args.start c.args.part.now = ap (λ (g : Shape). walk (ref_length c.args.layout) g c.args.part.now) c.copied-g.ensures in
+    walking-stop _ _ _ _ _ _ c.loop-rest.invariant (sym c.read_entry.ensures ∙ c.in_default.is) _ c.unless_unknown.ensures ∙ given
+
+pub entry-g-requires : goal.entry-g-requires
+entry-g-requires c =
+    let found-e : read_entry (ref_length c.args.layout) c.loop-rest.rest.now ≡ Found c.in-Found.e c.in-Found.n = sym c.read_entry.ensures ∙ c.in-Found.is in
+    let taken : Taken c.loop-rest.rest.now c.in-Found.e c.in-Found.n = found _ _ _ _ found-e in
+    (c.loop-rest.invariant.is_ready, taken.body)
+
+pub overflow_sub-result-then-left-eq0 : goal.overflow_sub-result-then-left-eq0
+overflow_sub-result-then-left-eq0 c = c.loop-rest.invariant.within
+
+pub returns-then-left-eq0 : goal.returns-then-left-eq0
+returns-then-left-eq0 c =
+    let found-e : read_entry (ref_length c.args.layout) c.loop-rest.rest.now ≡ Found c.in-Found.e c.in-Found.n = sym c.read_entry.ensures ∙ c.in-Found.is in
+    let given : walk (ref_length c.args.layout) c.copied-g.result c.args.part.now ≡ walk (ref_length c.args.layout) c.args.start c.args.part.now = ap (λ (g : Shape). walk (ref_length c.args.layout) g c.args.part.now) c.copied-g.ensures in
+    rw c.refused.ensures (walking-refused _ _ _ _ _ _ c.loop-rest.invariant _ _ found-e (ap (λ (g : Shape). g.left) (sym c.entry-g.ensures) ∙ c.if-left-eq0.true) ∙ given)
+
+pub overflow_add-strips : goal.overflow_add-strips
+overflow_add-strips c =
+    let found-e : read_entry (ref_length c.args.layout) c.loop-rest.rest.now ≡ Found c.in-Found.e c.in-Found.n = sym c.read_entry.ensures ∙ c.in-Found.is in
+    let taken : Taken c.loop-rest.rest.now c.in-Found.e c.in-Found.n = found _ _ _ _ found-e in
+    let i = c.loop-rest.invariant in let t = taken in let k = c.shared_slice_known-1 in let o = end-of-few c.in-Found.e in let r = c.end_of-strips.ensures in omega (arith, i.few, i.within, t.forward, t.within)
+
+pub slice_bounds-rest-count : goal.slice_bounds-rest-count
+slice_bounds-rest-count c =
+    let found-e : read_entry (ref_length c.args.layout) c.loop-rest.rest.now ≡ Found c.in-Found.e c.in-Found.n = sym c.read_entry.ensures ∙ c.in-Found.is in
+    let taken : Taken c.loop-rest.rest.now c.in-Found.e c.in-Found.n = found _ _ _ _ found-e in
+    taken.within
+
+pub slice_bounds-rest-start : goal.slice_bounds-rest-start
+slice_bounds-rest-start c =
+    let found-e : read_entry (ref_length c.args.layout) c.loop-rest.rest.now ≡ Found c.in-Found.e c.in-Found.n = sym c.read_entry.ensures ∙ c.in-Found.is in
+    let taken : Taken c.loop-rest.rest.now c.in-Found.e c.in-Found.n = found _ _ _ _ found-e in
+    taken.within
+
+pub loop-rest-smaller : goal.loop-rest-smaller
+loop-rest-smaller c =
+    let found-e : read_entry (ref_length c.args.layout) c.loop-rest.rest.now ≡ Found c.in-Found.e c.in-Found.n = sym c.read_entry.ensures ∙ c.in-Found.is in
+    let taken : Taken c.loop-rest.rest.now c.in-Found.e c.in-Found.n = found _ _ _ _ found-e in
+    let t = taken in rw (part-rest, length-drop) (omega (arith, t.forward, t.within))
+
+pub loop-rest-preserved : goal.loop-rest-preserved
+loop-rest-preserved c =
+    let found-e : read_entry (ref_length c.args.layout) c.loop-rest.rest.now ≡ Found c.in-Found.e c.in-Found.n = sym c.read_entry.ensures ∙ c.in-Found.is in
+    let taken : Taken c.loop-rest.rest.now c.in-Found.e c.in-Found.n = found _ _ _ _ found-e in
+    let left-some : (stepped c.loop-rest.g c.in-Found.e).left ≡ 0 → ⊥ = λ z. c.if-left-eq0.false (ap (λ (g : Shape). g.left) c.entry-g.ensures ∙ z) in
+    rw (part-rest, c.end_of-strips.ensures ∙ end-of-is _ c.loop-rest.invariant.is_ready _ taken.body left-some, c.entry-g.ensures) (walking_on _ _ _ _ _ _ c.loop-rest.invariant _ _ found-e left-some)
+
+pub returns : goal.returns
+returns c =
+    let given : walk (ref_length c.args.layout) c.copied-g.result c.args.part.now ≡ walk (ref_length c.args.layout) c.args.start c.args.part.now = ap (λ (g : Shape). walk (ref_length c.args.layout) g c.args.part.now) c.copied-g.ensures in
+    walking-end _ _ _ _ _ _ c.loop-rest.invariant c.loop-rest-test.false ∙ given

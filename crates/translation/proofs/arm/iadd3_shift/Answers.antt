@@ -1,0 +1,25 @@
+use mathlib.Core.Path.{refl}
+use borrow.Author.Tests.{ne_eqb}
+use Rattle.translation.specs.Arms.{iadd3_shift}
+use Rattle.translation.proofs.Follow.{by-no, by-op, by-ret, by-yes}
+use Rattle.translation.proofs.arm.iadd3_shift.Goals as goal
+
+pub two-requires : goal.two-requires
+unfolding iadd3_shift
+two-requires c = tt
+
+pub two-requires-in-2 : goal.two-requires-in-2
+unfolding iadd3_shift
+two-requires-in-2 c = tt
+
+pub returns-in-1 : goal.returns-in-1
+unfolding iadd3_shift
+returns-in-1 c = rw c.in-1.is (by-yes refl (by-op c.two.ensures by-ret))
+
+pub returns-in-2 : goal.returns-in-2
+unfolding iadd3_shift
+returns-in-2 c = rw c.in-2.is (by-no refl (by-yes refl (by-op c.two-in-2.ensures by-ret)))
+
+pub returns-in_default : goal.returns-in_default
+unfolding iadd3_shift
+returns-in_default c = let rest = c.in_default.in_default-own.rest in by-no (ne_eqb _ _ rest.0.1) (by-no (ne_eqb _ _ rest.1) by-ret)

@@ -1,0 +1,19 @@
+use Rattle.translation.specs.Arms.{store_cell}
+use Rattle.translation.proofs.Follow.{by-act, by-no, by-ret, by-yes}
+use Rattle.translation.proofs.arm.store_cell.Goals as goal
+
+pub store-q-requires : goal.store-q-requires
+unfolding store_cell
+store-q-requires c = tt
+
+pub store-q-requires-else-flag : goal.store-q-requires-else-flag
+unfolding store_cell
+store-q-requires-else-flag c = tt
+
+pub returns-then-flag : goal.returns-then-flag
+unfolding store_cell
+returns-then-flag c = by-yes c.if-flag.true (by-act c.store-q.ensures by-ret)
+
+pub returns-else-flag : goal.returns-else-flag
+unfolding store_cell
+returns-else-flag c = by-no c.if-flag.false (by-act c.store-q-else-flag.ensures by-ret)

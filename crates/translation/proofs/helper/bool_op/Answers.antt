@@ -1,0 +1,29 @@
+use mathlib.Core.Path.{refl}
+use borrow.Author.Tests.{ne_eqb}
+use Rattle.translation.specs.Helpers.{bool_op}
+use Rattle.translation.proofs.Follow.{by-no, by-op, by-ret, by-yes}
+use Rattle.translation.proofs.helper.bool_op.Goals as goal
+
+pub two-requires : goal.two-requires
+unfolding bool_op
+two-requires c = tt
+
+pub two-requires-in-1 : goal.two-requires-in-1
+unfolding bool_op
+two-requires-in-1 c = tt
+
+pub two-requires-in_default : goal.two-requires-in_default
+unfolding bool_op
+two-requires-in_default c = tt
+
+pub returns-in-0 : goal.returns-in-0
+unfolding bool_op
+returns-in-0 c = rw c.in-0.is (by-yes refl (by-op c.two.ensures by-ret))
+
+pub returns-in-1 : goal.returns-in-1
+unfolding bool_op
+returns-in-1 c = rw c.in-1.is (by-no refl (by-yes refl (by-op c.two-in-1.ensures by-ret)))
+
+pub returns-in_default : goal.returns-in_default
+unfolding bool_op
+returns-in_default c = let rest = c.in_default.in_default-own.rest in by-no (ne_eqb _ _ rest.0.1) (by-no (ne_eqb _ _ rest.1) (by-op c.two-in_default.ensures by-ret))
