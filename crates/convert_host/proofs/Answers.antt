@@ -1,12 +1,12 @@
 -- What `mehkura_convert` answers, case by case.
-use mathlib.Core.Path.{◌≡◌, refl, sym, ap, ◌∙◌}
+use mathlib.Core.Path.{◌≡◌, refl}
 use mathlib.Core.List.{List}
 use Prim.Native.Nat.{ℕ}
 use Rattle.strip.specs.declared.format.Layout.{Layout}
 use Rattle.strip.specs.declared.format.Numbered.{Numbered}
 use Rattle.strip.specs.declared.format.Numbered.TheVariants.{Known, Unknown}
 use Rattle.convert.specs.declared.Outcome.{Outcome}
-use Rattle.convert.specs.Convert.{Answer, answer_of, conversion}
+use Rattle.convert.specs.Convert.{answer_of, conversion}
 use Rattle.convert_host.specs.Converted.{returns, handed_back, convert_answer}
 
 module _ (layout : Numbered) (run out : List ℕ) (written : ℕ) where

@@ -4,7 +4,7 @@ use mathlib.Core.List.{List, [], ◌∷◌, ◌++◌, append_assoc, append-nil}
 use Prim.Native.Nat.{ℕ, zero, suc, ◌+◌, ◌*◌, ◌≤◌, ◌<◌}
 use native.Mathlib.Omega.{arith}
 use native.Mathlib.Numerals.{towards_suc}
-use lib.ListN.{length, take, drop, get_or, set}
+use lib.ListN.{length, take, get_or, set}
 use lib.Seq.{take_all, take-suc, take-suc-set, sets}
 use borrow.Author.Tests.{eq-eqb, ne_eqb}
 use Rattle.strip.specs.Entry.{wide, word_at, word_bytes, read_entry, read_as, encode, kind_of, immediate_of, refs_of, short}

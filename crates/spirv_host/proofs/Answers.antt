@@ -1,5 +1,5 @@
 -- What `mehkura_to_spirv` answers, case by case.
-use mathlib.Core.Path.{◌≡◌, refl, ap, ◌∙◌, sym}
+use mathlib.Core.Path.{◌≡◌, ap, ◌∙◌, sym}
 use mathlib.Core.List.{List}
 use Prim.Native.Nat.{ℕ}
 use Rattle.spirv.specs.declared.answer.Outcome.{Outcome}

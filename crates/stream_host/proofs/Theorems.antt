@@ -1,7 +1,7 @@
 -- A C caller's test block by block ends in the test's answer on the whole.
-use mathlib.Core.Path.{◌≡◌, refl, ap, ap₂, ◌∙◌, sym}
+use mathlib.Core.Path.{◌≡◌, refl, ap, ap₂, ◌∙◌}
 use mathlib.Core.List.{List, [], ◌∷◌}
-use mathlib.Core.Bool.{Bool, true, false, cond}
+use mathlib.Core.Bool.{Bool, cond}
 use Prim.Native.Nat.{ℕ, ◌+◌}
 use lib.ListN.{length}
 use lib.Dec.{eqb}
@@ -12,11 +12,11 @@ use Rattle.strip.specs.declared.format.Numbered.TheVariants.{Known, Unknown}
 use Rattle.strip.specs.declared.stream.Stream.{Stream}
 use Rattle.strip.specs.declared.stream.Fed.{Fed}
 use Rattle.strip.specs.Entry.{ref_length}
-use Rattle.strip.specs.Shape.{shape_ok, shape_number}
-use Rattle.strip.specs.Stream.{start_of, feed, at_end, then, feeds, concat}
+use Rattle.strip.specs.Shape.{shape_number}
+use Rattle.strip.specs.Stream.{start_of, feed, at_end, feeds, concat}
 use Rattle.strip.specs.State.{state_length, state_bytes, state_of}
 use Rattle.strip.proofs.Blocks.{Kept, keeps-start, keeps-fed, blocks}
-use Rattle.stream_host.specs.Tested.{Answer, begins, shape_begin, returns, told, shape_block, shape_end, after, handed}
+use Rattle.stream_host.specs.Tested.{Answer, begins, shape_begin, returns, told, shape_block, shape_end, handed}
 
 -- ---- the functions
 pub begun-none : (state : List ℕ) (n : Numbered) → n ≡ Unknown → begins 7 state ≡ shape_begin n state
