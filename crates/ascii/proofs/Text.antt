@@ -1,63 +1,39 @@
 -- Text that grows at a place of a buffer, and the digits of a number.
-use Prim.Native.Nat.{ℕ, zero, suc, ◌+◌, ◌*◌, ◌/◌, ◌%◌, ◌^◌, ◌-◌, ◌≤◌, ◌<◌}
-use mathlib.Core.Path.{◌≡◌, refl, ap, sym, ◌∙◌}
-use mathlib.Core.Bool.{Bool, true, false}
-use mathlib.Core.List.{List, [], ◌∷◌}
-use native.Mathlib.Omega.{arith}
-use borrow.Author.Tests.{lt-ltb, le-ltb, leb-true, leb-false}
-use lib.Dec.{leb}
-use lib.Pow.{pow-add}
-use lib.ListN.{length, take, get_or, set}
-use lib.Seq.{sets, take-suc}
-use Rattle.io.specs.Counts.{IsPrefixLen}
-use Rattle.io.specs.Digits.{last_digits, IsDigitCount}
-use Rattle.strip.proofs.Write.{sets-append}
-use Rattle.ascii.specs.Decimal.{spelled, decimal_of}
+use Rattle.std.proofs.Common.{◌≡◌, ℕ, ◌+◌, ◌-◌, ◌/◌, ◌%◌, ◌<◌, ◌≤◌, zero, suc, List, [], ◌∷◌, ◌++◌, length, length-append, take, get_or, set, arith, add-one}
+use Rattle.std.proofs.Math.Seq.{take-suc, length-take-le}
+use borrow.Author.Tests.{lt-ltb, le-ltb}
+use Rattle.std.proofs.lemmas.List.Edits.{sets}
+use Rattle.ascii.specs.Decimal.{hex_digit_ascii, spelled}
 
-pub copy_more : (from base out : List ℕ) (at i : ℕ) → i < length from → out ≡ sets base at (take i from) → length (take i from) ≡ i
-    → set out (at + i) (get_or from i 0) ≡ sets base at (take (suc i) from)
-copy_more from base out at i h e l = rw (take-suc from i 0 h, e) (sets-append (take i from) (get_or from i 0 ∷ []) base at (at + i) (omega arith))
+-- bytes, and then bytes after them
+pub sets-append : (xs ys l : List ℕ) (i j : ℕ) → j ≡ i + length xs → sets (sets l i xs) j ys ≡ sets l i (xs ++ ys)
+sets-append [] ys l i j e = let h : j ≡ i = omega arith in rw h
+sets-append (x ∷ xs) ys l i j e = sets-append xs ys (set l i x) (suc i) j (omega arith)
 
--- ---- decimal: the fewest digits are those of the definition
-pow-one : (k : ℕ) → 1 ≤ 10 ^ k
-pow-one zero = omega arith
-pow-one (suc k) = omega (arith, pow-one k)
+-- a byte more of a copy
+pub copy_more : (from base out : List ℕ) (at i : ℕ) → i < length from → out ≡ sets base at (take i from)
+    → set out (at + i) (get_or from i 0) ≡ sets base at (take (i + 1) from)
+copy_more from base out at i h e =
+    let l : length (take i from) ≡ i = length-take-le i from (omega arith) in
+    rw (add-one, take-suc from i 0 h, e) (sets-append (take i from) (get_or from i 0 ∷ []) base at (at + i) (omega arith))
 
-pub spelled_is : (k f n : ℕ) → IsDigitCount 10 1 n k → k ≤ f → last_digits 10 k n ≡ spelled f n
+-- a number below ten has one digit
+pub spelled_one : (f n : ℕ) → 0 < f → n < 10 → spelled f n ≡ hex_digit_ascii n ∷ []
 unfolding spelled
-spelled_is zero f n (a, b, c) h = absurd (omega arith)
-spelled_is (suc k) zero n w h = absurd (omega arith)
-spelled_is (suc zero) (suc f) n (a, b, c) h =
-    let e : n % 10 ≡ n = omega arith in
-    rw (e, lt-ltb n 10 (omega arith))
-spelled_is (suc (suc k)) (suc f) n (a, b, c) h =
-    let at : suc (suc k) - 1 ≡ suc k = omega arith in
-    let m : 10 ^ suc k ≤ n = rw at at (c (omega arith)) in
-    let z : 1 ≤ 10 ^ k = pow-one k in
-    rw (le-ltb n 10 (omega arith), ← spelled_is (suc k) f (n / 10) (omega arith, omega arith, λ z. let at' : suc k - 1 ≡ k = omega arith in rw at' (omega arith)) (omega arith))
+spelled_one zero n some low = absurd (omega arith)
+spelled_one (suc f) n some low = rw (lt-ltb n 10 low)
 
--- and there are at most twenty
-pub few : (k n : ℕ) → IsDigitCount 10 1 n k → n < 18446744073709551616 → k ≤ 20
-few k n (a, b, c) h = by (leb k 20) refl
-  where
-    by : (t : Bool) → leb k 20 ≡ t → k ≤ 20
-    by true e = leb-true k 20 e
-    by false e =
-        let more : 20 < k = leb-false k 20 e in
-        let j : ℕ = k - 21 in
-        let at : k - 1 ≡ 20 + j = omega arith in
-        let m : 10 ^ (20 + j) ≤ n = rw at at (c (omega arith)) in
-        let p : 10 ^ (20 + j) ≡ 10 ^ 20 * 10 ^ j = pow-add 10 20 j in
-        omega (arith, pow-one j)
+-- any other one has those of a tenth of it, and its last
+pub spelled_more : (f n : ℕ) → 0 < f → 10 ≤ n → spelled f n ≡ spelled (f - 1) (n / 10) ++ (hex_digit_ascii (n % 10) ∷ [])
+unfolding spelled
+spelled_more zero n some high = absurd (omega arith)
+spelled_more (suc f) n some high = let e : suc f - 1 ≡ f = omega arith in rw (le-ltb n 10 high, e)
 
-pub record Decimal (n k : ℕ) (ds : List ℕ) : Type 0 where
-  pub text : take k ds ≡ decimal_of n
-  pub size : length (decimal_of n) ≡ k
-  pub most : k ≤ 20
+-- the text of a number grows by its last digit
+pub digit_more : (f n d at to : ℕ) (base out : List ℕ) → 0 < f → 10 ≤ n → d ≡ hex_digit_ascii (n % 10) → out ≡ sets base at (spelled (f - 1) (n / 10))
+    → to ≡ at + length (spelled (f - 1) (n / 10)) → set out to d ≡ sets base at (spelled f n)
+digit_more f n d at to base out some high e o t =
+    rw (spelled_more f n some high, o, e) (sets-append (spelled (f - 1) (n / 10)) (hex_digit_ascii (n % 10) ∷ []) base at to t)
 
-pub decimal-is : (n k : ℕ) (ds : List ℕ) → n < 18446744073709551616 → IsPrefixLen k ds → IsDigitCount 10 1 n k → take k ds ≡ last_digits 10 k n → Decimal n k ds
-unfolding decimal_of
-decimal-is n k ds h (a, b) w e =
-    let m = few k n w h in
-    let t : take k ds ≡ spelled 20 n = e ∙ spelled_is k 20 n w m in
-    record { text = t; size = sym (ap length t) ∙ sym b; most = m }
+pub length_more : (f n : ℕ) → 0 < f → 10 ≤ n → length (spelled f n) ≡ length (spelled (f - 1) (n / 10)) + 1
+length_more f n some high = rw (spelled_more f n some high, length-append)

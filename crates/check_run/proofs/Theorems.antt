@@ -1,20 +1,19 @@
 -- The line, and what is said of a run, however it comes in blocks.
-use Rattle.std.proofs.Common.{◌≡◌, ℕ, ◌+◌, ◌≤◌, Bool, true, false, cond, List, [], ◌∷◌, ◌++◌, length, sym, refl, ap, ◌∙◌, ap₂, add-zero, add_assoc, zero-add, arith, length-append}
+use Rattle.std.proofs.Common.{◌≡◌, ℕ, ◌+◌, ◌≤◌, Bool, true, List, [], ◌∷◌, ◌++◌, length, sym, ap, ◌∙◌, ap₂, add-zero, add_assoc, zero-add, arith, length-append}
 use mathlib.Core.Option.{some}
 use lib.Seq.{sets}
 use Rattle.strip.specs.declared.format.Layout.{Layout}
 use Rattle.strip.specs.declared.reader.Entry.{Entry}
-use Rattle.strip.specs.declared.stream.Stream.{Stream}
 use Rattle.strip.specs.declared.stream.Fed.{Fed}
 use Rattle.strip.specs.Entry.{ref_length}
 use Rattle.strip.specs.Shape.{decode, shape_ok}
 use Rattle.strip.specs.Pass.{fresh}
 use Rattle.strip.specs.Steps.{walk}
-use Rattle.strip.specs.Stream.{start_of, settled, fed, unfed, feed, at_end, then, feeds, concat}
-use Rattle.strip.proofs.Write.{sets-append}
+use Rattle.strip.specs.Stream.{start_of, settled, fed, feed, at_end, feeds, concat}
+use Rattle.ascii.proofs.Text.{sets-append}
 use Rattle.strip.proofs.Blocks.{fed-within, blocks}
 use Rattle.check_run.specs.declared.report.Check.{Check}
-use Rattle.check_run.specs.Report.{well_formed, refused_at, line_of, started, plus, taken, takes, said}
+use Rattle.check_run.specs.Report.{well_formed, line_of, started, plus, taken, takes, said}
 
 -- ---- the code's parts
 -- a text of three parts, from the start of a buffer on

@@ -7,18 +7,17 @@
 ghost use Rattle.std.specs.Prelude.{◌≡◌, ◌≤◌, length};
 ghost use Rattle.evaluation.specs.Machine.{told};
 
+use ascii::read_full;
 use evaluation::{Outcome, Refusal, State};
-use libc::STDOUT_FILENO;
+use std::io;
 use strip::Layout;
 
 // Element i becomes i * step, without what lies above bit 31.
 fn fill(words: &mut [u32], step: u32) {
-    let mut i = 0;
-    let mut word = 0;
-    while i < words.len() {
-        words[i] = word;
-        word = std::num::wrapping_add_u32(word, step);
-        i += 1;
+    let mut word = 0u32;
+    for x in words.iter_mut() {
+        *x = word;
+        word = word.wrapping_add(step);
     }
 }
 
@@ -43,91 +42,87 @@ fn number_of(o: Outcome) -> u64
     }
 }
 
-fn numbered(name: &[u8], n: u64, digits: usize) {
-    io::write_all(STDOUT_FILENO, name);
-    io::print_hex(STDOUT_FILENO, n, digits);
+fn numbered(name: &str, n: u64, digits: usize, to: &impl Print) -> io::Result<()> {
+    print!(to; "{name}{n:0digits$x}")
 }
 
 // ` slot=03 vec=00000011 comp=00000002` with 9.
-fn fault(o: Outcome) {
+fn fault(o: Outcome, to: &impl Print) -> io::Result<()> {
     let Outcome::Refused(r) = o else {
-        return;
+        return Ok(());
     };
     let Refusal::NoConstant(slot, vec, comp) = r else {
-        return;
+        return Ok(());
     };
-    numbered(b" slot=", slot as u64, 2);
-    numbered(b" vec=", vec as u64, 8);
-    numbered(b" comp=", comp as u64, 8);
+    numbered(" slot=", slot as u64, 2, to)?;
+    numbered(" vec=", vec as u64, 8, to)?;
+    numbered(" comp=", comp as u64, 8, to)
 }
 
 // ` R05=0000002a` where the register changed.
-fn register(n: u64, before: u32, after: u32) {
+fn register(n: u64, before: u32, after: u32, to: &impl Print) -> io::Result<()> {
     if before != after {
-        numbered(b" R", n, 2);
-        numbered(b"=", after as u64, 8);
+        numbered(" R", n, 2, to)?;
+        numbered("=", after as u64, 8, to)?;
     }
+    Ok(())
 }
 
-fn registers(before: &[u32; 255], after: &[u32; 255]) {
-    let mut n = 0;
-    while n < 255 {
-        register(n as u64, before[n], after[n]);
-        n += 1;
+fn registers(before: &[u32; 255], after: &[u32; 255], to: &impl Print) -> io::Result<()> {
+    for n in 0..255usize {
+        register(n as u64, before[n], after[n], to)?;
     }
+    Ok(())
 }
 
 // ` P3=1` or ` C=0` where the truth changed.
-fn truth(name: &[u8], before: bool, after: bool) {
+fn truth(name: &str, before: bool, after: bool, to: &impl Print) -> io::Result<()> {
     if before != after {
-        io::write_all(STDOUT_FILENO, name);
-        if after {
-            io::write_all(STDOUT_FILENO, b"1");
-        } else {
-            io::write_all(STDOUT_FILENO, b"0");
-        }
+        let bit = u8::from(after);
+        print!(to; "{name}{bit}")?;
     }
+    Ok(())
 }
 
-fn predicates(before: &[bool; 7], after: &[bool; 7]) {
-    truth(b" P0=", before[0], after[0]);
-    truth(b" P1=", before[1], after[1]);
-    truth(b" P2=", before[2], after[2]);
-    truth(b" P3=", before[3], after[3]);
-    truth(b" P4=", before[4], after[4]);
-    truth(b" P5=", before[5], after[5]);
-    truth(b" P6=", before[6], after[6]);
+fn predicates(before: &[bool; 7], after: &[bool; 7], to: &impl Print) -> io::Result<()> {
+    truth(" P0=", before[0], after[0], to)?;
+    truth(" P1=", before[1], after[1], to)?;
+    truth(" P2=", before[2], after[2], to)?;
+    truth(" P3=", before[3], after[3], to)?;
+    truth(" P4=", before[4], after[4], to)?;
+    truth(" P5=", before[5], after[5], to)?;
+    truth(" P6=", before[6], after[6], to)
 }
 
-fn flags(before: &[bool; 4], after: &[bool; 4]) {
-    truth(b" Z=", before[0], after[0]);
-    truth(b" S=", before[1], after[1]);
-    truth(b" C=", before[2], after[2]);
-    truth(b" O=", before[3], after[3]);
+fn flags(before: &[bool; 4], after: &[bool; 4], to: &impl Print) -> io::Result<()> {
+    truth(" Z=", before[0], after[0], to)?;
+    truth(" S=", before[1], after[1], to)?;
+    truth(" C=", before[2], after[2], to)?;
+    truth(" O=", before[3], after[3], to)
 }
 
 // Each cell that differs.
-fn changes(before: State, after: State) {
+fn changes(before: State, after: State, to: &impl Print) -> io::Result<()> {
     let r = before.regs;
     let s = after.regs;
-    registers(&r, &s);
+    registers(&r, &s, to)?;
     let p = before.preds;
     let q = after.preds;
-    predicates(&p, &q);
+    predicates(&p, &q, to)?;
     let f = before.flags;
     let g = after.flags;
-    flags(&f, &g);
+    flags(&f, &g, to)
 }
 
 // The number and the cells of a run.
-fn answer(run: &[u8], constants: &[u32]) {
+fn answer(run: &[u8], constants: &[u32], to: &impl Print) -> io::Result<()> {
     let before = start();
     let r = evaluation::evaluate(run, Layout::Wide, before, constants);
     let o = r.outcome;
     let after = r.state;
-    io::print_decimal(STDOUT_FILENO, number_of(o));
-    fault(o);
-    changes(before, after);
+    to.print(number_of(o))?;
+    fault(o, to)?;
+    changes(before, after, to)
 }
 
 // The value of a hex digit; 0 for any other byte.
@@ -144,10 +139,8 @@ fn digit(b: u8) -> u8
 // The number that hex digits spell, without what lies above bit 31.
 fn number(hex: &[u8]) -> u32 {
     let mut n = 0u32;
-    let mut i = 0;
-    while i < hex.len() {
-        n = (n << 4) | (digit(hex[i]) as u32);
-        i += 1;
+    for b in hex {
+        n = (n << 4) | (digit(*b) as u32);
     }
     n
 }
@@ -164,10 +157,8 @@ fn decode(hex: &[u8], bytes: &mut [u8]) -> usize
     ensures { result ≤ length bytes.new }
 {
     let n = least(hex.len() / 2, bytes.len());
-    let mut i = 0;
-    while i < n {
+    for i in 0..n {
         bytes[i] = digit(hex[2 * i]) * 16 + digit(hex[2 * i + 1]);
-        i += 1;
     }
     n
 }
@@ -178,48 +169,58 @@ fn find(s: &[u8], from: usize, b: u8) -> usize
     ensures lower_bound { from ≤ result }
     ensures upper_bound { result ≤ length s.now }
 {
-    let mut i = from;
-    while i < s.len() && s[i] != b {
-        i += 1;
+    for i in from..s.len() {
+        if s[i] == b {
+            return i;
+        }
     }
-    i
+    s.len()
 }
 
 // One case: a run has at most 1024 bytes.
-fn case(hex: &[u8], lent: u32, constants: &[u32]) {
+fn case(hex: &[u8], lent: u32, constants: &[u32], to: &impl Print) -> io::Result<()> {
     let mut bytes = [0u8; 1024];
     let n = decode(hex, &mut bytes);
     let k = least(lent as usize, constants.len());
-    answer(&bytes[0..n], &constants[0..k]);
+    answer(&bytes[0..n], &constants[0..k], to)
 }
 
 // A line of the input. One without a second field is no case and says nothing.
-fn line(s: &[u8], constants: &[u32]) {
+fn line(s: &[u8], constants: &[u32], to: &impl Print) -> io::Result<()> {
     let a = find(s, 0, b' ');
     if a == s.len() {
-        return;
+        return Ok(());
     }
     let from = a + 1;
     let b = find(s, from, b' ');
-    case(&s[from..b], number(&s[0..a]), constants);
-    io::write_all(STDOUT_FILENO, &s[b..]);
-    io::write_all(STDOUT_FILENO, b"\n");
+    case(&s[from..b], number(&s[0..a]), constants, to)?;
+    to.write_all(&s[b..])?;
+    print!(to; "\n")
 }
 
-fn lines(s: &[u8], constants: &[u32]) {
-    let mut at = 0;
-    while at < s.len() {
-        let end = find(s, at, b'\n');
-        line(&s[at..end], constants);
-        at = end + 1;
+fn lines(s: &[u8], constants: &[u32], to: &impl Print) -> io::Result<()> {
+    for one in s.split(|b| *b == b'\n') {
+        line(one, constants, to)?;
     }
+    Ok(())
 }
 
-fn main() {
-    // Word i of the 32 slots is i * 9e3779b1.
-    let mut constants = [0u32; 524288];
+// The 32 slots' words.
+fn slots() -> [u32; 524288] {
+    [0; 524288]
+}
+
+// Room for the whole input.
+fn page() -> [u8; 262144] {
+    [0; 262144]
+}
+
+fn main(rt: HostRuntime) -> io::Result<()> {
+    // Word i is i * 9e3779b1.
+    let mut constants = slots();
     fill(&mut constants, 0x9e3779b1);
-    let mut input = [0u8; 262144];
-    let n = io::read_full(libc::STDIN_FILENO, &mut input);
-    lines(&input[..n], &constants);
+    let mut input = page();
+    let mut from = rt.stdin();
+    let n = read_full(&mut from, &mut input);
+    lines(&input[..n], &constants, &rt)
 }

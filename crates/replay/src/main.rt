@@ -6,7 +6,9 @@
 
 ghost use Rattle.std.specs.Prelude.{◌≡◌, length};
 
-use libc::{STDIN_FILENO, STDOUT_FILENO};
+use ascii::read_full;
+use std::io;
+use std::io::Read;
 use translation::Outcome;
 
 // What was replayed so far, and whether the input goes on.
@@ -32,10 +34,8 @@ fn pattern(i: usize) -> u8 {
 }
 
 fn fill(room: &mut [u8]) {
-    let mut i = 0;
-    while i < room.len() {
-        room[i] = pattern(i);
-        i += 1;
+    for (i, byte) in room.iter_mut().enumerate() {
+        *byte = pattern(i);
     }
 }
 
@@ -49,12 +49,10 @@ fn expected_byte(strip: &[u8], i: usize) -> u8 {
 }
 
 fn room_holds(room: &[u8], strip: &[u8]) -> bool {
-    let mut i = 0;
-    while i < room.len() {
-        if room[i] != expected_byte(strip, i) {
+    for (i, byte) in room.iter().enumerate() {
+        if *byte != expected_byte(strip, i) {
             return false;
         }
-        i += 1;
     }
     true
 }
@@ -64,12 +62,10 @@ fn expected_mark(e: Expected, slot: usize) -> u32 {
 }
 
 fn marks_are(marks: [u32; 32], e: Expected) -> bool {
-    let mut slot = 0;
-    while slot < 32 {
+    for slot in 0..32usize {
         if marks[slot] != expected_mark(e, slot) {
             return false;
         }
-        slot += 1;
     }
     true
 }
@@ -143,29 +139,30 @@ fn record_agrees(record: &[u8], e: Expected, strip: &[u8]) -> bool {
     }
 }
 
-fn say(what: &[u8], n: u64) {
-    io::write_all(STDOUT_FILENO, what);
-    io::print_decimal(STDOUT_FILENO, n);
+fn say(what: &str, n: u64, to: &impl Print) -> io::Result<()> {
+    print!(to; "{what}{n}")
 }
 
 fn one_more(n: u64, on: bool) -> u64 {
-    std::num::wrapping_add_u64(n, if on { 1 } else { 0 })
+    n.wrapping_add(u64::from(on))
 }
 
-fn counted(t: Tally, is_accepted: bool, same: bool) -> Tally {
+// How many records were replayed.
+fn replayed(t: Tally) -> u64 {
+    t.accepted.wrapping_add(t.refused)
+}
+
+fn counted(t: Tally, is_accepted: bool, same: bool, to: &impl Print) -> io::Result<Tally> {
     if !same {
-        say(
-            b"difference at ",
-            std::num::wrapping_add_u64(t.accepted, t.refused),
-        );
-        io::write_all(STDOUT_FILENO, b"\n");
+        say("difference at ", replayed(t), to)?;
+        print!(to; "\n")?;
     }
-    Tally {
+    Ok(Tally {
         accepted: one_more(t.accepted, is_accepted),
         refused: one_more(t.refused, !is_accepted),
         differences: one_more(t.differences, !same),
         going: true,
-    }
+    })
 }
 
 fn ended(t: Tally) -> Tally {
@@ -177,13 +174,10 @@ fn ended(t: Tally) -> Tally {
     }
 }
 
-fn cut(t: Tally) -> Tally {
-    say(
-        b"cut at ",
-        std::num::wrapping_add_u64(t.accepted, t.refused),
-    );
-    io::write_all(STDOUT_FILENO, b"\n");
-    ended(t)
+fn cut(t: Tally, to: &impl Print) -> io::Result<Tally> {
+    say("cut at ", replayed(t), to)?;
+    print!(to; "\n")?;
+    Ok(ended(t))
 }
 
 fn wide(b: u8) -> u32 {
@@ -206,47 +200,57 @@ fn expectation(head: &[u8]) -> Expected
 }
 
 // The strip of a record, and the record replayed.
-fn replay(t: Tally, head: &[u8], strip: &mut [u8]) -> Tally
+fn replay(
+    t: Tally,
+    head: &[u8],
+    strip: &mut [u8],
+    from: &mut impl Read,
+    to: &impl Print,
+) -> io::Result<Tally>
     requires { length head.now ≡ 26 }
 {
     let n = word(head[24], head[25], 0, 0) as usize;
     if strip.len() < n {
-        return cut(t);
+        return cut(t, to);
     }
-    if io::read_full(STDIN_FILENO, &mut strip[0..n]) < n {
-        return cut(t);
+    if read_full(from, &mut strip[0..n]) < n {
+        return cut(t, to);
     }
     let same = record_agrees(&head[0..18], expectation(head), &strip[0..n]);
-    counted(t, head[23] == 0, same)
+    counted(t, head[23] == 0, same, to)
 }
 
 // One record of the input.
-fn next(t: Tally, head: &mut [u8], strip: &mut [u8]) -> Tally
+fn next(
+    t: Tally,
+    head: &mut [u8],
+    strip: &mut [u8],
+    from: &mut impl Read,
+    to: &impl Print,
+) -> io::Result<Tally>
     requires { (length head.old ≡ 26) × (length strip.old ≡ 256) }
     ensures { (length head.new ≡ 26) × (length strip.new ≡ 256) }
 {
-    let n = io::read_full(STDIN_FILENO, head);
+    let n = read_full(from, head);
     if n == 0 {
-        return ended(t);
+        return Ok(ended(t));
     }
     if n < head.len() {
-        return cut(t);
+        return cut(t, to);
     }
-    replay(t, head, strip)
+    replay(t, head, strip, from, to)
 }
 
-fn summary(t: Tally) {
-    say(
-        b"records ",
-        std::num::wrapping_add_u64(t.accepted, t.refused),
-    );
-    say(b", accepted ", t.accepted);
-    say(b", refused ", t.refused);
-    say(b", differences ", t.differences);
-    io::write_all(STDOUT_FILENO, b"\n");
+fn summary(t: Tally, to: &impl Print) -> io::Result<()> {
+    say("records ", replayed(t), to)?;
+    say(", accepted ", t.accepted, to)?;
+    say(", refused ", t.refused, to)?;
+    say(", differences ", t.differences, to)?;
+    print!(to; "\n")
 }
 
-fn main() {
+fn main(rt: HostRuntime) -> io::Result<()> {
+    let mut from = rt.stdin();
     let mut head = [0u8; 26];
     let mut strip = [0u8; 256];
     let mut t = Tally {
@@ -258,8 +262,8 @@ fn main() {
     // A proved loop ends: it counts down from more records than the list can have.
     let mut left: u64 = 0x1_0000_0000;
     while left > 0 && t.going {
-        t = next(t, &mut head, &mut strip);
+        t = next(t, &mut head, &mut strip, &mut from, &rt)?;
         left -= 1;
     }
-    summary(t);
+    summary(t, &rt)
 }

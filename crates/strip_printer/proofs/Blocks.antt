@@ -8,7 +8,7 @@ use borrow.Author.Tests.{leb-true, leb-false, eqb-true}
 use lib.Dec.{eqb, leb}
 use lib.ListN.{length, take, drop, length-append, length-drop}
 use lib.Seq.{take_all, take-append-le, drop-append-le, drop-append-add}
-use Rattle.strip.proofs.Write.{sets-append}
+use Rattle.ascii.proofs.Text.{sets-append}
 use Rattle.strip_printer.specs.declared.line.Printer.{Printer}
 use Rattle.strip_printer.specs.Line.{line_of, answer_to, printer_after, added, Printed, with_line, step, up_to, lines, no_text, Stands, Block}
 

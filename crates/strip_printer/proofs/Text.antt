@@ -1,16 +1,13 @@
 -- Text at a place of a buffer: hex, and the answers that it spells.
-use Prim.Native.Nat.{ℕ, zero, suc, ◌+◌, ◌*◌, ◌/◌, ◌%◌, ◌^◌, ◌-◌, ◌≤◌, ◌<◌}
-use mathlib.Core.Path.{◌≡◌, refl, ap, sym, ◌∙◌}
-use mathlib.Core.Bool.{Bool, true, false, cond}
+use Prim.Native.Nat.{ℕ, suc, ◌+◌, ◌*◌, ◌/◌, ◌%◌, ◌-◌, ◌≤◌, ◌<◌}
+use mathlib.Core.Path.{◌≡◌, refl, ap, ◌∙◌}
 use mathlib.Core.List.{List, [], ◌∷◌, ◌++◌}
 use native.Mathlib.Omega.{arith}
 use native.Mathlib.Numerals.{add-one}
-use borrow.Author.Tests.{lt-ltb, le-ltb, leb-true, leb-false}
-use lib.Dec.{eqb, ltb, leb}
-use lib.ListN.{length, take, get_or, set, replicate, length-append, length-drop, length-set}
+use lib.ListN.{length, take, get_or, set, replicate, length-append, length-set}
 use lib.Seq.{sets, take-suc, length-take-le, length-sets}
-use Rattle.io.specs.Digits.{hex_digit_ascii}
-use Rattle.strip.proofs.Write.{sets-append}
+use Rattle.ascii.specs.Decimal.{hex_digit_ascii}
+use Rattle.ascii.proofs.Text.{sets-append}
 use Rattle.translation.specs.Strip.{Decision, refusal_number, length_of, decision}
 use Rattle.translation.specs.declared.answer.Outcome.{Outcome}
 use Rattle.translation.specs.declared.answer.Outcome.TheVariants.{Written, Refused}

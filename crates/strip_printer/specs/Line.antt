@@ -1,8 +1,7 @@
 -- What the strip printer prints (01, last part of 'Bench rows'): a line for each record. Text is a list of ASCII codes.
 use Rattle.std.specs.Prelude.{ℕ, zero, suc, ◌+◌, ◌*◌, ◌/◌, ◌%◌, ◌≤◌, ◌≡◌, Bool, true, cond, List, [], ◌∷◌, ◌++◌, leb, length, take, drop, replicate}
 use Rattle.std.proofs.lemmas.List.Edits.{sets}
-use Rattle.io.specs.Digits.{hex_digit_ascii}
-use Rattle.ascii.specs.Decimal.{decimal_of}
+use Rattle.ascii.specs.Decimal.{hex_digit_ascii, decimal_of}
 use Rattle.translation.specs.Strip.{Decision, refusal_number, decision}
 use Rattle.translation.specs.declared.answer.Outcome.{Outcome}
 use Rattle.translation.specs.declared.answer.Outcome.TheVariants.{Written, Refused}

@@ -2,8 +2,8 @@
 // 20 digits, a space, 512 hex digits, the end. A block has at most 455 records.
 ghost use Rattle.std.specs.Prelude.{ℕ, ◌+◌, ◌*◌, ◌^◌, ◌≤◌, ◌<◌, min, ◌≡◌, List, length, take};
 ghost use Rattle.std.proofs.lemmas.List.Edits.{sets};
-ghost use Rattle.io.specs.Digits.{hex_digit_ascii as Digits·glyph};
 ghost use Rattle.translation.specs.Strip.{refusal_number, length_of};
+ghost use Rattle.ascii.specs.Decimal.{hex_digit_ascii};
 ghost use Rattle.strip_printer.specs.Line.{hex_of, refused_text, text_of, line_of, goes_on};
 ghost use Rattle.strip_printer.specs.Line.{answer_to, printer_after, added, Printed, Stands, no_text, step, lines};
 
@@ -22,7 +22,7 @@ pub struct Printer {
 // The code of a hex digit.
 fn glyph(d: u8) -> u8
     requires { d < 16 }
-    ensures { result ≡ Digits·glyph d }
+    ensures { result ≡ hex_digit_ascii d }
 {
     if d < 10 { 48 + d } else { 87 + d }
 }

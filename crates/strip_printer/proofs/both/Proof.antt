@@ -1,9 +1,0 @@
-use Rattle.strip_printer.proofs.both.Statement.{statement}
-use Rattle.strip_printer.proofs.both.Tie as tie
-
-pub both_spec : {M : Type 1} → statement M
-both_spec =
-    tie.close
-    (tie.spec
-    (λ c. rw c.if1.true)
-    (λ c. rw c.if1.false))
