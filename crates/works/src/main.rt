@@ -12,24 +12,23 @@ ghost use Rattle.strip.specs.Entry.{wide};
 ghost use Rattle.evaluation.specs.Machine.{answer_of, evaluation};
 
 use evaluation::{Evaluated, State};
-use libc::{STDIN_FILENO, STDOUT_FILENO};
 use room::{empty, in_turn};
+use std::io;
+use std::io::Read;
 use steps::in_order;
 use strip::Layout;
 
-fn say(text: &[u8]) {
-    io::write_all(STDOUT_FILENO, text);
+fn say(text: &str, to: &impl Print) -> io::Result<()> {
+    to.print(text)
 }
 
-fn hex(n: u64, width: usize) {
-    io::print_hex(STDOUT_FILENO, n, width);
+fn hex(n: u64, width: usize, to: &impl Print) -> io::Result<()> {
+    print!(to; "{n:0width$x}")
 }
 
 // `refused N`, the last line.
-fn refused(number: u32) {
-    say(b"refused ");
-    io::print_decimal(STDOUT_FILENO, number as u64);
-    say(b"\n");
+fn refused(number: u32, to: &impl Print) -> io::Result<()> {
+    println!(to; "refused {number}")
 }
 
 // The works read no constant, and none is lent.
@@ -42,12 +41,10 @@ fn evaluated(run: &[u8], s: State) -> Evaluated
 
 // Register n holds n in each of its four bytes.
 fn fill(regs: &mut [u32]) {
-    let mut i = 0;
-    let mut word = 0;
-    while i < regs.len() {
-        regs[i] = word;
-        word = std::num::wrapping_add_u32(word, 0x01010101);
-        i += 1;
+    let mut word = 0u32;
+    for reg in regs.iter_mut() {
+        *reg = word;
+        word = word.wrapping_add(0x01010101);
     }
 }
 
@@ -92,41 +89,33 @@ fn high(n: u64) -> u32
 
 // Whether the registers from a place on are the same.
 fn same_registers(before: &[u32; 255], after: &[u32; 255], from: usize) -> bool {
-    let mut n = from;
-    while n < 255 {
+    for n in from..255usize {
         if before[n] != after[n] {
             return false;
         }
-        n += 1;
     }
     true
 }
 
 fn same_predicates(before: &[bool; 7], after: &[bool; 7]) -> bool {
-    let mut n = 0;
-    while n < 7 {
+    for n in 0..7usize {
         if before[n] != after[n] {
             return false;
         }
-        n += 1;
     }
     true
 }
 
-fn truth(name: &[u8], on: bool) {
-    say(name);
-    if on {
-        say(b"1");
-    } else {
-        say(b"0");
-    }
+fn truth(name: &str, on: bool, to: &impl Print) -> io::Result<()> {
+    let bit = u8::from(on);
+    print!(to; "{name}{bit}")
 }
 
-fn flags(f: &[bool; 4]) {
-    truth(b" Z", f[0]);
-    truth(b" S", f[1]);
-    truth(b" C", f[2]);
-    truth(b" O", f[3]);
+fn flags(f: &[bool; 4], to: &impl Print) -> io::Result<()> {
+    truth(" Z", f[0], to)?;
+    truth(" S", f[1], to)?;
+    truth(" C", f[2], to)?;
+    truth(" O", f[3], to)
 }
 
 // The registers from a place on and the predicates are as before.
@@ -139,25 +128,22 @@ fn kept(before: State, after: State, from: usize) -> bool {
 }
 
 // The end of a line: whether every cell that it does not name is as before.
-fn others(kept: bool) {
-    if kept {
-        say(b", others kept\n");
-    } else {
-        say(b", others changed\n");
-    }
+fn others(kept: bool, to: &impl Print) -> io::Result<()> {
+    let what = if kept { "kept" } else { "changed" };
+    println!(to; ", others {what}")
 }
 
 // `count 00000000ffffffff + 1 = 0000000100000000 Z1 S0 C1 O0, others kept`
-fn count_line(before: State, after: State) {
+fn count_line(before: State, after: State, to: &impl Print) -> io::Result<()> {
     let r = before.regs;
     let s = after.regs;
     let f = after.flags;
-    say(b"count ");
-    hex(pair(r[1], r[0]), 16);
-    say(b" + 1 = ");
-    hex(pair(s[1], s[0]), 16);
-    flags(&f);
-    others(kept(before, after, 2));
+    say("count ", to)?;
+    hex(pair(r[1], r[0]), 16, to)?;
+    say(" + 1 = ", to)?;
+    hex(pair(s[1], s[0]), 16, to)?;
+    flags(&f, to)?;
+    others(kept(before, after, 2), to)
 }
 
 // The flags are the same.
@@ -168,35 +154,33 @@ fn same_flags(a: State, b: State) -> bool {
 }
 
 // The work's run ends in the state that its records end in; else a line says so.
-fn compare(run: &[u8], before: State, after: State) {
+fn compare(run: &[u8], before: State, after: State, to: &impl Print) -> io::Result<()> {
     let e = evaluated(run, before);
     let end = e.state;
     if kept(end, after, 0) && same_flags(end, after) {
-        return;
+        return Ok(());
     }
-    say(b"the run ends in another state\n");
+    say("the run ends in another state\n", to)
 }
 
 // So many steps of the count. It answers the refusal's number, 0 where there is none.
-fn count(records: &[u8], run: &[u8], from: u64, steps: u64) -> u32
+fn count(records: &[u8], run: &[u8], from: u64, steps: u64, to: &impl Print) -> io::Result<u32>
     requires { 36 ≤ length records.now }
 {
     let mut s = start(low(from), high(from), 0xabcd9fef);
-    let mut left = steps;
-    while left > 0 {
+    for _ in 0..steps {
         let i = in_order(records, 2, s);
         let o = i.outcome;
         let after = i.state;
         let number = meaning::outcome_number(o);
         if number != 0 {
-            return number;
+            return Ok(number);
         }
-        compare(run, s, after);
-        count_line(s, after);
+        compare(run, s, after, to)?;
+        count_line(s, after, to)?;
         s = after;
-        left -= 1;
     }
-    0
+    Ok(0)
 }
 
 // Before the carry into R1, before the wrap of all 64 bits, at a carry that turns the sign of R1, and at 0.
@@ -208,18 +192,16 @@ const FROM: [u64; 5] = [
     0,
 ];
 
-fn counts(records: &[u8], run: &[u8]) -> u32
+fn counts(records: &[u8], run: &[u8], to: &impl Print) -> io::Result<u32>
     requires { 36 ≤ length records.now }
 {
-    let mut i = 0;
-    while i < 5 {
-        let number = count(records, run, FROM[i], 5);
+    for i in 0..5usize {
+        let number = count(records, run, FROM[i], 5, to)?;
         if number != 0 {
-            return number;
+            return Ok(number);
         }
-        i += 1;
     }
-    0
+    Ok(0)
 }
 
 fn byte_one(word: u32) -> u64
@@ -229,29 +211,36 @@ fn byte_one(word: u32) -> u64
 }
 
 // `conditions 7fffffff + 00000001 = 80000000 Z0 S1 C0 O1, byte 9f -> 9a, R2 abcd9fef -> abcd9aef, others kept`
-fn conditions_line(before: State, after: State) {
+fn conditions_line(before: State, after: State, to: &impl Print) -> io::Result<()> {
     let r = before.regs;
     let s = after.regs;
     let f = after.flags;
-    say(b"conditions ");
-    hex(wide(r[0]), 8);
-    say(b" + ");
-    hex(wide(r[1]), 8);
-    say(b" = ");
-    hex(wide(s[0]), 8);
-    flags(&f);
-    say(b", byte ");
-    hex(byte_one(r[2]), 2);
-    say(b" -> ");
-    hex(byte_one(s[2]), 2);
-    say(b", R2 ");
-    hex(wide(r[2]), 8);
-    say(b" -> ");
-    hex(wide(s[2]), 8);
-    others(r[1] == s[1] && kept(before, after, 3));
+    say("conditions ", to)?;
+    hex(wide(r[0]), 8, to)?;
+    say(" + ", to)?;
+    hex(wide(r[1]), 8, to)?;
+    say(" = ", to)?;
+    hex(wide(s[0]), 8, to)?;
+    flags(&f, to)?;
+    say(", byte ", to)?;
+    hex(byte_one(r[2]), 2, to)?;
+    say(" -> ", to)?;
+    hex(byte_one(s[2]), 2, to)?;
+    say(", R2 ", to)?;
+    hex(wide(r[2]), 8, to)?;
+    say(" -> ", to)?;
+    hex(wide(s[2]), 8, to)?;
+    others(r[1] == s[1] && kept(before, after, 3), to)
 }
 
-fn condition(records: &[u8], run: &[u8], a: u32, b: u32, r2: u32) -> u32
+fn condition(
+    records: &[u8],
+    run: &[u8],
+    a: u32,
+    b: u32,
+    r2: u32,
+    to: &impl Print,
+) -> io::Result<u32>
     requires { 36 ≤ length records.now }
 {
     let s = start(a, b, r2);
@@ -260,10 +249,10 @@ fn condition(records: &[u8], run: &[u8], a: u32, b: u32, r2: u32) -> u32
     let after = i.state;
     let number = meaning::outcome_number(o);
     if number == 0 {
-        compare(run, s, after);
-        conditions_line(s, after);
+        compare(run, s, after, to)?;
+        conditions_line(s, after, to)?;
     }
-    number
+    Ok(number)
 }
 
 // Sums that leave none, Z, S, C, ZC, SC, SO, CO, ZCO: no sum of two words leaves other flags.
@@ -287,50 +276,47 @@ fn with_number(number: u32, half: u32) -> u32 {
 }
 
 // Each sum twice, over all numbers.
-fn conditions(records: &[u8], run: &[u8]) -> u32
+fn conditions(records: &[u8], run: &[u8], to: &impl Print) -> io::Result<u32>
     requires { 36 ≤ length records.now }
 {
-    let mut i = 0;
-    while i < 18 {
+    for i in 0..18usize {
         let sum = i / 2;
         let r2 = with_number((i % 16) as u32, (i % 2 * 15) as u32);
-        let number = condition(records, run, A[sum], B[sum], r2);
+        let number = condition(records, run, A[sum], B[sum], r2, to)?;
         if number != 0 {
-            return number;
+            return Ok(number);
         }
-        i += 1;
     }
-    0
+    Ok(0)
 }
 
 // Both works: the first one's run, and after it the second one's.
-fn works(records: &[u8], room: &[u8], from: usize, to: usize)
-    requires { (72 ≤ length records.now) × ((from ≤ to) × (to ≤ length room.now)) }
+fn works(records: &[u8], room: &[u8], first: usize, both: usize, to: &impl Print) -> io::Result<()>
+    requires { (72 ≤ length records.now) × ((first ≤ both) × (both ≤ length room.now)) }
 {
-    let number = counts(&records[0..36], &room[0..from]);
+    let number = counts(&records[0..36], &room[0..first], to)?;
     if number != 0 {
-        refused(number);
-        return;
+        return refused(number, to);
     }
-    let number = conditions(&records[36..72], &room[from..to]);
+    let number = conditions(&records[36..72], &room[first..both], to)?;
     if number != 0 {
-        refused(number);
+        refused(number, to)?;
     }
+    Ok(())
 }
 
 // Each work is two records.
-fn main() {
+fn main(rt: HostRuntime) -> io::Result<()> {
     let mut input = [0u8; 72];
-    if io::read_full(STDIN_FILENO, &mut input) < 72 {
-        say(b"cut\n");
-        return;
+    let mut from = rt.stdin();
+    if from.read_exact(&mut input).is_err() {
+        return say("cut\n", &rt);
     }
     let mut room = [0u8; 512];
     let first = in_turn(&input[0..36], 2, empty(), &mut room);
     let both = in_turn(&input[36..72], 2, first, &mut room);
     if both.number != 0 {
-        refused(both.number);
-        return;
+        return refused(both.number, &rt);
     }
-    works(&input, &room, first.used, both.used);
+    works(&input, &room, first.used, both.used, &rt)
 }
