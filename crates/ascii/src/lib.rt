@@ -18,7 +18,7 @@ pub fn copy(from: &[u8], out: &mut [u8], at: usize)
 }
 
 // The code of a hex digit.
-pub fn glyph(d: u8) -> u8
+fn glyph(d: u8) -> u8
     requires { d < 16 }
     ensures { result ≡ hex_digit_ascii d }
 {
