@@ -10,6 +10,14 @@ use Rattle.strip.proofs.EntryRead.{Taken, found, part-rest}
 use Rattle.convert.proofs.Turns.{length-turned}
 use Rattle.convert.proofs.Passes.{holds-begin, stops, room, in-range, stops_at, goes_on, stops-open, finished}
 use Rattle.convert.proofs.pass.pass.Goals as goal
+use Rattle.convert.proofs.pass.pass.Goals.{In-Found}
+
+-- what was read at the start of the rest
+found-e : (c : In-Found) → read_entry (ref_length c.args.from) c.loop-rest.rest.now ≡ Found c.in-Found.e c.in-Found.n
+found-e c = sym c.read_entry.ensures ∙ c.in-Found.is
+
+taken : (c : In-Found) → Taken c.loop-rest.rest.now c.in-Found.e c.in-Found.n
+taken c = found _ _ _ _ (found-e c)
 
 -- a reference of the one layout takes twice the bytes of the other's at most
 twice : (from to : Layout) → ref_length to ≤ 2 * ref_length from
@@ -28,46 +36,29 @@ pub returns-in_default : goal.returns-in_default
 returns-in_default c = stops _ _ (twice c.args.from c.args.to) _ _ _ c.requires _ _ _ _ c.loop-rest.invariant (sym c.read_entry.ensures ∙ c.in_default.is) c.loop-rest-test.true
 
 pub overflow_add-next : goal.overflow_add-next
-overflow_add-next c =
-    let found-e : read_entry (ref_length c.args.from) c.loop-rest.rest.now ≡ Found c.in-Found.e c.in-Found.n = sym c.read_entry.ensures ∙ c.in-Found.is in
-    omega (arith, in-range _ _ (twice c.args.from c.args.to) _ _ _ c.requires _ _ _ _ c.loop-rest.invariant _ _ found-e, c.well_formed.0.1, c.entry_length.ensures)
+overflow_add-next c = omega (arith, in-range _ _ (twice c.args.from c.args.to) _ _ _ c.requires _ _ _ _ c.loop-rest.invariant _ _ (found-e (goal.at.overflow_add-next c).In-Found), c.well_formed.0.1, c.entry_length.ensures)
 
 pub turn-g-requires : goal.turn-g-requires
-turn-g-requires c =
-    let found-e : read_entry (ref_length c.args.from) c.loop-rest.rest.now ≡ Found c.in-Found.e c.in-Found.n = sym c.read_entry.ensures ∙ c.in-Found.is in
-    let taken : Taken c.loop-rest.rest.now c.in-Found.e c.in-Found.n = found _ _ _ _ found-e in
-    (c.loop-rest.invariant.ready, taken.body, room _ _ (twice c.args.from c.args.to) _ _ _ c.requires _ _ _ _ c.loop-rest.invariant _ _ found-e)
+turn-g-requires c = (c.loop-rest.invariant.ready, (taken (goal.at.turn-g-requires c).In-Found).body, room _ _ (twice c.args.from c.args.to) _ _ _ c.requires _ _ _ _ c.loop-rest.invariant _ _ (found-e (goal.at.turn-g-requires c).In-Found))
 
 pub shape_of-out-then-left-eq0 : goal.shape_of-out-then-left-eq0
 shape_of-out-then-left-eq0 c = length-turned c.turn-g.ensures ∙ c.loop-rest.invariant.kept
 
 pub returns-then-left-eq0 : goal.returns-then-left-eq0
-returns-then-left-eq0 c =
-    let found-e : read_entry (ref_length c.args.from) c.loop-rest.rest.now ≡ Found c.in-Found.e c.in-Found.n = sym c.read_entry.ensures ∙ c.in-Found.is in
-    stops_at _ _ (twice c.args.from c.args.to) _ _ _ c.requires _ _ _ _ c.loop-rest.invariant _ _ found-e _ _ c.turn-g.ensures c.if-left-eq0.true
+returns-then-left-eq0 c = stops_at _ _ (twice c.args.from c.args.to) _ _ _ c.requires _ _ _ _ c.loop-rest.invariant _ _ (found-e (goal.at.returns-then-left-eq0 c).In-Found) _ _ c.turn-g.ensures c.if-left-eq0.true
 
 pub slice_bounds-rest-count : goal.slice_bounds-rest-count
-slice_bounds-rest-count c =
-    let found-e : read_entry (ref_length c.args.from) c.loop-rest.rest.now ≡ Found c.in-Found.e c.in-Found.n = sym c.read_entry.ensures ∙ c.in-Found.is in
-    let taken : Taken c.loop-rest.rest.now c.in-Found.e c.in-Found.n = found _ _ _ _ found-e in
-    taken.within
+slice_bounds-rest-count c = (taken (goal.at.slice_bounds-rest-count c).In-Found).within
 
 pub slice_bounds-rest-start : goal.slice_bounds-rest-start
-slice_bounds-rest-start c =
-    let found-e : read_entry (ref_length c.args.from) c.loop-rest.rest.now ≡ Found c.in-Found.e c.in-Found.n = sym c.read_entry.ensures ∙ c.in-Found.is in
-    let taken : Taken c.loop-rest.rest.now c.in-Found.e c.in-Found.n = found _ _ _ _ found-e in
-    taken.within
+slice_bounds-rest-start c = (taken (goal.at.slice_bounds-rest-start c).In-Found).within
 
 pub loop-rest-smaller : goal.loop-rest-smaller
 loop-rest-smaller c =
-    let found-e : read_entry (ref_length c.args.from) c.loop-rest.rest.now ≡ Found c.in-Found.e c.in-Found.n = sym c.read_entry.ensures ∙ c.in-Found.is in
-    let taken : Taken c.loop-rest.rest.now c.in-Found.e c.in-Found.n = found _ _ _ _ found-e in
-    let t = taken in rw (part-rest, length-drop) (omega (arith, t.forward, t.within))
+    let t = (taken (goal.at.loop-rest-smaller c).In-Found) in rw (part-rest, length-drop) (omega (arith, t.forward, t.within))
 
 pub loop-rest-preserved : goal.loop-rest-preserved
-loop-rest-preserved c =
-    let found-e : read_entry (ref_length c.args.from) c.loop-rest.rest.now ≡ Found c.in-Found.e c.in-Found.n = sym c.read_entry.ensures ∙ c.in-Found.is in
-    rw part-rest (goes_on _ _ (twice c.args.from c.args.to) _ _ _ c.requires _ _ _ _ c.loop-rest.invariant _ _ found-e _ _ c.turn-g.ensures _ (ap (λ (n : ℕ). c.loop-rest.at + n) c.entry_length.ensures) c.if-left-eq0.false)
+loop-rest-preserved c = rw part-rest (goes_on _ _ (twice c.args.from c.args.to) _ _ _ c.requires _ _ _ _ c.loop-rest.invariant _ _ (found-e (goal.at.loop-rest-preserved c).In-Found) _ _ c.turn-g.ensures _ (ap (λ (n : ℕ). c.loop-rest.at + n) c.entry_length.ensures) c.if-left-eq0.false)
 
 pub shape_of-out-then-left-eq64 : goal.shape_of-out-then-left-eq64
 shape_of-out-then-left-eq64 c = c.loop-rest.invariant.kept

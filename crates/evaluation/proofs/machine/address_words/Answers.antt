@@ -1,4 +1,4 @@
-use Rattle.std.proofs.Common.{◌≤◌, refl, rules, le-ltb, lt-ltb, ne_eqb, le-leb}
+use Rattle.std.proofs.Common.{refl, rules, le-ltb, lt-ltb, ne_eqb, le-leb}
 use Rattle.std.proofs.lemmas.Bool.{lt-leb}
 use Rattle.evaluation.specs.Machine.{address_words}
 use Rattle.evaluation.specs.Progress.{addressed}
@@ -11,22 +11,15 @@ overflow_mul-i c = search rules
 
 pub overflow_mul-i-then-comp-le3 : goal.overflow_mul-i-then-comp-le3
 unfolding address_words addressed
-overflow_mul-i-then-comp-le3 c =
-    let vec-fits : c.args.vec ≤ 4095 = c.if-vec-le4095.true in
-    let h = vec-fits in search (rules, h)
+overflow_mul-i-then-comp-le3 c = search rules
 
 pub overflow_add-i : goal.overflow_add-i
 unfolding address_words addressed
-overflow_add-i c =
-    let vec-fits : c.args.vec ≤ 4095 = c.if-vec-le4095.true in
-    let h = vec-fits in search (rules, h)
+overflow_add-i c = search rules
 
 pub overflow_add-i-then-comp-le3 : goal.overflow_add-i-then-comp-le3
 unfolding address_words addressed
-overflow_add-i-then-comp-le3 c =
-    let vec-fits : c.args.vec ≤ 4095 = c.if-vec-le4095.true in
-    let comp-fits : c.args.comp ≤ 3 = c.if-comp-le3.true in
-    let h = vec-fits in let k = comp-fits in search (rules, h, k)
+overflow_add-i-then-comp-le3 c = search rules
 
 pub overflow_cast-i-then-comp-le3 : goal.overflow_cast-i-then-comp-le3
 unfolding address_words addressed

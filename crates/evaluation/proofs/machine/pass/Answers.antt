@@ -8,6 +8,16 @@ use Rattle.evaluation.specs.declared.machine.Ending.{Ending}
 use Rattle.evaluation.specs.Progress.{outcome_at, end_evaluated}
 use Rattle.evaluation.proofs.Progress.{holds-begin, stops, stops_at, goes_on, stops-open, finished, rest-undefined, rest-missing, rest-done}
 use Rattle.evaluation.proofs.machine.pass.Goals as goal
+use Rattle.evaluation.proofs.machine.pass.Goals.{In-Found}
+
+-- what was read at the start of the rest
+found-e : (c : In-Found) → read_entry (ref_length c.args.layout) c.loop-rest.rest.now ≡ Found c.in-Found.e c.in-Found.n
+unfolding outcome_at
+found-e c = sym c.read_entry.ensures ∙ c.in-Found.is
+
+taken : (c : In-Found) → Taken c.loop-rest.rest.now c.in-Found.e c.in-Found.n
+unfolding outcome_at
+taken c = found _ _ _ _ (found-e c)
 
 -- an ending is told by its case
 with-end : {r s : Ending} {x : Evaluated} → r ≡ s → end_evaluated s ≡ x → end_evaluated r ≡ x
@@ -47,10 +57,7 @@ step-state-requires c = search rules
 
 pub step-m-requires : goal.step-m-requires
 unfolding outcome_at
-step-m-requires c =
-    let found-e : read_entry (ref_length c.args.layout) c.loop-rest.rest.now ≡ Found c.in-Found.e c.in-Found.n = sym c.read_entry.ensures ∙ c.in-Found.is in
-    let taken : Taken c.loop-rest.rest.now c.in-Found.e c.in-Found.n = found _ _ _ _ found-e in
-    (c.loop-rest.invariant.0, taken.body)
+step-m-requires c = (c.loop-rest.invariant.0, (taken (goal.at.step-m-requires c).In-Found).body)
 
 pub refused-requires-then-left-eq0 : goal.refused-requires-then-left-eq0
 unfolding outcome_at
@@ -58,23 +65,15 @@ refused-requires-then-left-eq0 c = search rules
 
 pub returns-then-left-eq0 : goal.returns-then-left-eq0
 unfolding outcome_at
-returns-then-left-eq0 c =
-    let found-e : read_entry (ref_length c.args.layout) c.loop-rest.rest.now ≡ Found c.in-Found.e c.in-Found.n = sym c.read_entry.ensures ∙ c.in-Found.is in
-    with-end c.refused-then-left-eq0.ensures (stops_at _ _ _ _ _ _ _ _ _ c.loop-rest.invariant.1 _ _ found-e _ _ _ _ (c.step-m.ensures _ c.load-loaded.ensures) c.if-left-eq0.true)
+returns-then-left-eq0 c = with-end c.refused-then-left-eq0.ensures (stops_at _ _ _ _ _ _ _ _ _ c.loop-rest.invariant.1 _ _ (found-e (goal.at.returns-then-left-eq0 c).In-Found) _ _ _ _ (c.step-m.ensures _ c.load-loaded.ensures) c.if-left-eq0.true)
 
 pub slice_bounds-rest-count : goal.slice_bounds-rest-count
 unfolding outcome_at
-slice_bounds-rest-count c =
-    let found-e : read_entry (ref_length c.args.layout) c.loop-rest.rest.now ≡ Found c.in-Found.e c.in-Found.n = sym c.read_entry.ensures ∙ c.in-Found.is in
-    let taken : Taken c.loop-rest.rest.now c.in-Found.e c.in-Found.n = found _ _ _ _ found-e in
-    taken.within
+slice_bounds-rest-count c = (taken (goal.at.slice_bounds-rest-count c).In-Found).within
 
 pub slice_bounds-rest-start : goal.slice_bounds-rest-start
 unfolding outcome_at
-slice_bounds-rest-start c =
-    let found-e : read_entry (ref_length c.args.layout) c.loop-rest.rest.now ≡ Found c.in-Found.e c.in-Found.n = sym c.read_entry.ensures ∙ c.in-Found.is in
-    let taken : Taken c.loop-rest.rest.now c.in-Found.e c.in-Found.n = found _ _ _ _ found-e in
-    taken.within
+slice_bounds-rest-start c = (taken (goal.at.slice_bounds-rest-start c).In-Found).within
 
 pub slice_bounds-rest-end : goal.slice_bounds-rest-end
 unfolding outcome_at
@@ -83,15 +82,11 @@ slice_bounds-rest-end c = search rules
 pub loop-rest-smaller : goal.loop-rest-smaller
 unfolding outcome_at
 loop-rest-smaller c =
-    let found-e : read_entry (ref_length c.args.layout) c.loop-rest.rest.now ≡ Found c.in-Found.e c.in-Found.n = sym c.read_entry.ensures ∙ c.in-Found.is in
-    let taken : Taken c.loop-rest.rest.now c.in-Found.e c.in-Found.n = found _ _ _ _ found-e in
-    let t = taken in rw (part-rest, length-drop) (omega (arith, t.forward, t.within))
+    let t = (taken (goal.at.loop-rest-smaller c).In-Found) in rw (part-rest, length-drop) (omega (arith, t.forward, t.within))
 
 pub loop-rest-preserved : goal.loop-rest-preserved
 unfolding outcome_at
-loop-rest-preserved c =
-    let found-e : read_entry (ref_length c.args.layout) c.loop-rest.rest.now ≡ Found c.in-Found.e c.in-Found.n = sym c.read_entry.ensures ∙ c.in-Found.is in
-    rw (c.step-state.ensures, c.operand-stored.ensures, part-rest) (goes_on _ _ _ _ _ _ _ _ _ c.loop-rest.invariant.1 _ _ found-e _ _ _ _ (c.step-m.ensures _ c.load-loaded.ensures) c.loop-rest.invariant.0 c.if-left-eq0.false)
+loop-rest-preserved c = rw (c.step-state.ensures, c.operand-stored.ensures, part-rest) (goes_on _ _ _ _ _ _ _ _ _ c.loop-rest.invariant.1 _ _ (found-e (goal.at.loop-rest-preserved c).In-Found) _ _ _ _ (c.step-m.ensures _ c.load-loaded.ensures) c.loop-rest.invariant.0 c.if-left-eq0.false)
 
 pub refused-requires-then-left-ne64 : goal.refused-requires-then-left-ne64
 unfolding outcome_at

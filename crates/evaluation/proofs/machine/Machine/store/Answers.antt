@@ -12,6 +12,12 @@ use Rattle.evaluation.specs.Progress.{progress_after, standing}
 use Rattle.evaluation.proofs.Cases.{is-running, not-running}
 use Rattle.evaluation.proofs.Progress.{Named, store-named, refuses, idle, stays, runs, stored-none, store-runs, store-refused}
 use Rattle.evaluation.proofs.machine.Machine.store.Goals as goal
+use Rattle.evaluation.proofs.machine.Machine.store.Goals.{Else-left-eq0}
+
+-- the shape test passes the entry: its cell is in range, it makes no value, and its value is kept
+kept : (c : Else-left-eq0) → (ltb c.args.n (cond (eqb c.args.k 7) 255 (cond (eqb c.args.k 8) 7 4)) ≡ true) × ((c.store-g.result ≡ placed c.args.self.shape 0) × Named c.args.self.shape c.args.r)
+unfolding with_store standing effect_of kind_of placed progress_after values_mask
+kept c = let h : c.args.k < 256 = search rules in let b = c.requires.1 in store-named c.args.self.shape c.requires.0.0 (placed c.args.self.shape 0) _ c.if-left-eq0.false (ltb c.args.n (cond (eqb c.args.k 7) 255 (cond (eqb c.args.k 8) 7 4))) (eqb c.args.k 7) 1 2 c.args.r (c.store-g.ensures ∙ step-store _ _ h b _ _)
 
 pub store-g-requires : goal.store-g-requires
 unfolding with_store standing effect_of kind_of placed progress_after
@@ -35,9 +41,7 @@ returns-in_default c = let h : c.args.k < 256 = search rules in let b = c.requir
 
 pub value_at-requires : goal.value_at-requires
 unfolding with_store standing effect_of kind_of placed progress_after values_mask
-value_at-requires c =
-    let kept : (ltb c.args.n (cond (eqb c.args.k 7) 255 (cond (eqb c.args.k 8) 7 4)) ≡ true) × ((c.store-g.result ≡ placed c.args.self.shape 0) × Named c.args.self.shape c.args.r) = let h : c.args.k < 256 = search rules in let b = c.requires.1 in store-named c.args.self.shape c.requires.0.0 (placed c.args.self.shape 0) _ c.if-left-eq0.false (ltb c.args.n (cond (eqb c.args.k 7) 255 (cond (eqb c.args.k 8) 7 4))) (eqb c.args.k 7) 1 2 c.args.r (c.store-g.ensures ∙ step-store _ _ h b _ _) in
-    (kept.1.1.1.1, c.requires.0.1)
+value_at-requires c = ((kept (goal.at.value_at-requires c).Else-left-eq0).1.1.1.1, c.requires.0.1)
 
 pub storable-requires : goal.storable-requires
 unfolding with_store standing effect_of kind_of placed progress_after
@@ -50,11 +54,9 @@ passed-requires-then-storable c = search rules
 pub returns-then-storable : goal.returns-then-storable
 unfolding with_store standing effect_of kind_of placed progress_after values_mask
 returns-then-storable c =
-    let kept : (ltb c.args.n (cond (eqb c.args.k 7) 255 (cond (eqb c.args.k 8) 7 4)) ≡ true) × ((c.store-g.result ≡ placed c.args.self.shape 0) × Named c.args.self.shape c.args.r) = let h : c.args.k < 256 = search rules in let b = c.requires.1 in store-named c.args.self.shape c.requires.0.0 (placed c.args.self.shape 0) _ c.if-left-eq0.false (ltb c.args.n (cond (eqb c.args.k 7) 255 (cond (eqb c.args.k 8) 7 4))) (eqb c.args.k 7) 1 2 c.args.r (c.store-g.ensures ∙ step-store _ _ h b _ _) in
-    let x = kept in let on = c.in-Runs.is in let p = c.passed-then-storable.ensures in let v = c.value_at.result in λ s cs. rw (is-running on, lt-ltb _ _ x.1.1.1.1, ← c.value_at.ensures 64 x.1.1.1.1 (omega arith)) (ap (λ (r : Machine). r.shape) p ∙ c.store-g.ensures, (λ a. a, λ some. runs c.args.self _ _ _ cs _ on (storing c.args.k c.args.n v) (ap (storing c.args.k c.args.n) (sym (c.value_at.ensures _ x.1.1.0 x.1.1.1.0))) _ (stays c.args.self _ _ on _ _ p _ (ap (λ (g : Shape). g.values) x.1.0) ∙ store-runs s _ c.args.k c.args.n v (sym (c.storable.ensures _) ∙ c.if-storable.true))))
+    let x = (kept (goal.at.returns-then-storable c).Else-left-eq0) in let on = c.in-Runs.is in let p = c.passed-then-storable.ensures in let v = c.value_at.result in λ s cs. rw (is-running on, lt-ltb _ _ x.1.1.1.1, ← c.value_at.ensures 64 x.1.1.1.1 (omega arith)) (ap (λ (r : Machine). r.shape) p ∙ c.store-g.ensures, (λ a. a, λ some. runs c.args.self _ _ _ cs _ on (storing c.args.k c.args.n v) (ap (storing c.args.k c.args.n) (sym (c.value_at.ensures _ x.1.1.0 x.1.1.1.0))) _ (stays c.args.self _ _ on _ _ p _ (ap (λ (g : Shape). g.values) x.1.0) ∙ store-runs s _ c.args.k c.args.n v (sym (c.storable.ensures _) ∙ c.if-storable.true))))
 
 pub returns : goal.returns
 unfolding with_store standing effect_of kind_of placed progress_after values_mask
 returns c =
-    let kept : (ltb c.args.n (cond (eqb c.args.k 7) 255 (cond (eqb c.args.k 8) 7 4)) ≡ true) × ((c.store-g.result ≡ placed c.args.self.shape 0) × Named c.args.self.shape c.args.r) = let h : c.args.k < 256 = search rules in let b = c.requires.1 in store-named c.args.self.shape c.requires.0.0 (placed c.args.self.shape 0) _ c.if-left-eq0.false (ltb c.args.n (cond (eqb c.args.k 7) 255 (cond (eqb c.args.k 8) 7 4))) (eqb c.args.k 7) 1 2 c.args.r (c.store-g.ensures ∙ step-store _ _ h b _ _) in
-    let x = kept in let on = c.in-Runs.is in λ s cs. (c.store-g.ensures, (λ a. a, λ some. runs c.args.self _ _ _ cs _ on (Refuse UndefinedValue) (ap (storing c.args.k c.args.n) (sym (c.value_at.ensures _ x.1.1.0 x.1.1.1.0)) ∙ store-refused c.args.k c.args.n _ (sym (c.storable.ensures _) ∙ c.if-storable.false)) _ refl))
+    let x = (kept (goal.at.returns c).Else-left-eq0) in let on = c.in-Runs.is in λ s cs. (c.store-g.ensures, (λ a. a, λ some. runs c.args.self _ _ _ cs _ on (Refuse UndefinedValue) (ap (storing c.args.k c.args.n) (sym (c.value_at.ensures _ x.1.1.0 x.1.1.1.0)) ∙ store-refused c.args.k c.args.n _ (sym (c.storable.ensures _) ∙ c.if-storable.false)) _ refl))

@@ -6,6 +6,12 @@ use Rattle.strip.proofs.Table.{no_end}
 use Rattle.evaluation.specs.Machine.{Push, effect_of, one_effect}
 use Rattle.evaluation.proofs.Progress.{Named, one-named, refuses, makes}
 use Rattle.evaluation.proofs.machine.Machine.unary.Goals as goal
+use Rattle.evaluation.proofs.machine.Machine.unary.Goals.{Else-left-eq0}
+
+-- the shape test passes the entry, so its values are kept
+kept : (c : Else-left-eq0) → Named c.args.self.shape c.args.a
+unfolding effect_of one_effect values_mask kind_of
+kept c = one-named c.args.self.shape c.requires.0.0 (placed c.args.self.shape 1) _ c.if-left-eq0.false 1 c.args.a c.unary-g.ensures
 
 pub unary-g-requires : goal.unary-g-requires
 unfolding effect_of one_effect values_mask kind_of
@@ -21,9 +27,7 @@ returns-then-left-eq0 c = let h : c.args.k < 256 = search rules in let b = c.req
 
 pub value_at-v-requires : goal.value_at-v-requires
 unfolding effect_of one_effect values_mask kind_of
-value_at-v-requires c =
-    let kept : Named c.args.self.shape c.args.a = one-named c.args.self.shape c.requires.0.0 (placed c.args.self.shape 1) _ c.if-left-eq0.false 1 c.args.a c.unary-g.ensures in
-    (kept.1.1, c.requires.0.1)
+value_at-v-requires c = ((kept (goal.at.value_at-v-requires c).Else-left-eq0).1.1, c.requires.0.1)
 
 pub unary-requires : goal.unary-requires
 unfolding effect_of one_effect values_mask kind_of
@@ -36,5 +40,4 @@ push-requires c = search rules
 pub returns : goal.returns
 unfolding effect_of one_effect values_mask kind_of
 returns c =
-    let kept : Named c.args.self.shape c.args.a = one-named c.args.self.shape c.requires.0.0 (placed c.args.self.shape 1) _ c.if-left-eq0.false 1 c.args.a c.unary-g.ensures in
-    let h : c.args.k < 256 = search rules in let b = c.requires.1.0 in let x = kept in λ s cs. makes _ _ _ _ cs s _ _ c.push.ensures.0 (has c.args.self.shape 1 c.args.a) 1 c.unary-g.ensures refl (step-unary _ _ h b c.requires.1.1.0 c.requires.1.1.1.0 c.requires.1.1.1.1 _) (no_end _ h (rw b refl)) _ _ _ c.push.ensures.1 (λ t. rw (c.requires.1.1.0, c.requires.1.1.1.0, c.requires.1.1.1.1, ← c.value_at-v.ensures _ x.0 x.1.0) (ap Push (sym c.unary.ensures)))
+    let h : c.args.k < 256 = search rules in let b = c.requires.1.0 in let x = (kept (goal.at.returns c).Else-left-eq0) in λ s cs. makes _ _ _ _ cs s _ _ c.push.ensures.0 (has c.args.self.shape 1 c.args.a) 1 c.unary-g.ensures refl (step-unary _ _ h b c.requires.1.1.0 c.requires.1.1.1.0 c.requires.1.1.1.1 _) (no_end _ h (rw b refl)) _ _ _ c.push.ensures.1 (λ t. rw (c.requires.1.1.0, c.requires.1.1.1.0, c.requires.1.1.1.1, ← c.value_at-v.ensures _ x.0 x.1.0) (ap Push (sym c.unary.ensures)))
