@@ -1,6 +1,8 @@
 -- Text that grows at a place of a buffer, and the digits of a number.
-use Rattle.std.proofs.Common.{◌≡◌, ℕ, ◌+◌, ◌-◌, ◌/◌, ◌%◌, ◌<◌, ◌≤◌, zero, suc, List, [], ◌∷◌, ◌++◌, length, length-append, take, get_or, set, arith, add-one}
-use Rattle.std.proofs.Math.Seq.{take-suc, length-take-le}
+use Rattle.std.proofs.Common.{◌≡◌, ℕ, ◌+◌, ◌-◌, ◌/◌, ◌%◌, ◌<◌, ◌≤◌, zero, suc, List, [], ◌∷◌, ◌++◌, append_assoc, length, length-append, length-take-le, take, take_at, drop_at, set, ap, ap₂, ◌∙◌, arith}
+use Rattle.std.proofs.lemmas.List.{drop-drop, take-append-le}
+use lib.Seq.{take-add, sets-eq}
+use borrow.Rule.Slice.PartMut.{put_mid, post_of}
 use borrow.Author.Tests.{lt-ltb, le-ltb}
 use Rattle.std.proofs.lemmas.List.Edits.{sets}
 use Rattle.ascii.specs.Decimal.{hex_digit_ascii, spelled}
@@ -10,12 +12,14 @@ pub sets-append : (xs ys l : List ℕ) (i j : ℕ) → j ≡ i + length xs → s
 sets-append [] ys l i j e = let h : j ≡ i = omega arith in rw h
 sets-append (x ∷ xs) ys l i j e = sets-append xs ys (set l i x) (suc i) j (omega arith)
 
--- a byte more of a copy
-pub copy_more : (from base out : List ℕ) (at i : ℕ) → i < length from → out ≡ sets base at (take i from)
-    → set out (at + i) (get_or from i 0) ≡ sets base at (take (i + 1) from)
-copy_more from base out at i h e =
-    let l : length (take i from) ≡ i = length-take-le i from (omega arith) in
-    rw (add-one, take-suc from i 0 h, e) (sets-append (take i from) (get_or from i 0 ∷ []) base at (at + i) (omega arith))
+-- a part of a buffer that was written over
+pub part-sets : (a k : ℕ) (xs ys : List ℕ) → a + length ys ≤ length xs → k ≡ length ys → put_mid a k xs ys ≡ sets xs a ys
+part-sets a k xs ys h e = rw (sets-eq ys xs a h, e, append_assoc) (ap (λ (l : List ℕ). take a xs ++ (ys ++ l)) (drop-drop (length ys) a xs))
+
+-- what was read, and then what a part holds that was read into after it
+pub part_more : (a k n : ℕ) (xs ys : List ℕ) → a ≤ length xs → n ≤ length ys → take (a + n) (put_mid a k xs ys) ≡ take a xs ++ take n ys
+part_more a k n xs ys h p = let l : length (take a xs) ≡ a = length-take-le a xs h in
+    take-add a n (put_mid a k xs ys) ∙ ap₂ ◌++◌ (take_at (take a xs) (ys ++ post_of a k xs) a l) (ap (take n) (drop_at (take a xs) (ys ++ post_of a k xs) a l) ∙ take-append-le n ys (post_of a k xs) p)
 
 -- a number below ten has one digit
 pub spelled_one : (f n : ℕ) → 0 < f → n < 10 → spelled f n ≡ hex_digit_ascii n ∷ []

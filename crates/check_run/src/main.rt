@@ -8,20 +8,11 @@ mod report;
 ghost use Rattle.std.specs.Prelude.{◌≡◌, ◌+◌, ◌*◌, ◌^◌, ◌<◌, ◌≤◌, length};
 ghost use Rattle.check_run.specs.Report.{Read};
 
-use report::{Check, report, start, take};
+use report::Check;
 use std::env::{Env, FillError};
 use std::io::{IsTerminal, Read, Write};
 use std::{io, str};
-use strip::{Layout, Numbered};
-
-// Where the reading stands: what was read, whether it goes on, why it failed, and from how many bytes on the next progress is told.
-#[derive(Clone, Copy)]
-struct Reading {
-    check: Check,
-    going: bool,
-    failed: Option<io::Error>,
-    tell: u64,
-}
+use strip::Layout;
 
 // How many bytes lie between two words of progress: 64 MiB.
 const STEP: u64 = 67108864;
@@ -32,17 +23,17 @@ fn has_argument(system: &impl Env, i: usize) -> bool {
     !matches!(system.arg(i, &mut space), Err(FillError::NotPresent))
 }
 
-// The layout that the arguments name.
-fn chosen(system: &impl Env) -> Numbered {
+// The layout that the arguments name, or none.
+fn chosen(system: &impl Env) -> Option<Layout> {
     if !has_argument(system, 1) {
-        return Numbered::Known(Layout::Wide);
+        return Some(Layout::Wide);
     }
     let mut space = [0u8; 16];
     let n = system.arg(1, &mut space).unwrap_or(0);
     if &space[..n] == b"--narrow".as_slice() && !has_argument(system, 2) {
-        return Numbered::Known(Layout::Narrow);
+        return Some(Layout::Narrow);
     }
-    Numbered::Unknown
+    None
 }
 
 // Says how far the reading is, on a terminal, and from where on it says so again. It says so for a reader's sake alone: a write that fails is let go.
@@ -54,37 +45,17 @@ fn progress(passed: u64, tell: u64, terminal: bool, to: &impl Eprint) -> u64 {
     tell
 }
 
-// Reads a block and tests it. It is the last one where the input ends, reading fails or an entry is refused.
-fn block(
-    r: Reading,
-    input: &mut [u8],
-    terminal: bool,
-    from: &mut impl Read,
-    to: &impl Eprint,
-) -> Reading
-    requires { (length input.old ≡ 65536) × (r.check.passed + 65544 < 2 ^ 64) × (r.check.strips ≤ r.check.passed) }
-    ensures read { Read input.new r.check result.check }
-    ensures input_len { (length input.new ≡ 65536) × (result.check.passed ≤ r.check.passed + 65544) × (result.check.strips ≤ result.check.passed) }
+// Reads a block and tests it. Whether the reading goes on: the input may end here, or an entry be refused.
+fn block(check: &mut Check, input: &mut [u8; 65536], from: &mut impl Read) -> io::Result<bool>
+    requires { (check.old.passed + 65544 < 2 ^ 64) × (check.old.strips ≤ check.old.passed) }
+    ensures read { Read input.new check.old check.new }
+    ensures bounds { (check.new.passed ≤ check.old.passed + 65544) × (check.new.strips ≤ check.new.passed) }
 {
     let got = from.read(input);
     let n = got.unwrap_or(0);
-    let before = r.check;
-    let after = take(before, &input[0..n]);
-    let stream = after.stream;
-    let shape = stream.shape;
-    let tell = progress(after.passed, r.tell, terminal, to);
-    Reading {
-        check: after,
-        going: n > 0 && shape.left > 0,
-        failed: got.err(),
-        tell: tell,
-    }
-}
-
-fn room() -> [u8; 64]
-    ensures { length result ≡ 64 }
-{
-    [0; 64]
+    check.take(&input[..n]);
+    got?;
+    Ok(n > 0 && check.stream.shape.left > 0)
 }
 
 // Says why reading failed, in the system's words; std writes the error's number after them.
@@ -101,38 +72,31 @@ fn fail(error: io::Error, to: &impl Eprint) -> io::Result<()> {
     eprintln!(to; "check_run: standard input: {words}")
 }
 
-// Says what was found. Progress that was told is wiped away.
-fn end(r: Reading, terminal: bool, to: &(impl Print + Eprint)) -> io::Result<()> {
-    if let Some(error) = r.failed {
-        return fail(error, to);
-    }
-    if terminal && r.tell > STEP {
-        eprint!(to; "\r\x1b[K")?;
-    }
-    let c = r.check;
-    let mut line = room();
-    let n = report(c, &mut line);
-    Print::write_all(to, &line[0..n])
-}
-
 fn main(rt: HostRuntime) -> io::Result<()> {
-    let Numbered::Known(layout) = chosen(&rt) else {
+    let Some(layout) = chosen(&rt) else {
         return eprintln!(rt; "usage: check_run [--narrow] < RUN");
     };
     let terminal = rt.stderr().is_terminal();
     let mut from = rt.stdin();
-    let mut input = [0u8; 65536];
-    let mut r = Reading {
-        check: start(layout),
-        going: true,
-        failed: None,
-        tell: STEP,
-    };
-    // A proved loop ends, and nothing says that an input does: it counts down from more blocks (2^46) than an input can have.
-    let mut left: u64 = 0x4000_0000_0000;
-    while left > 0 && r.going {
-        r = block(r, &mut input, terminal, &mut from, &rt);
-        left -= 1;
+    let mut input = [0; 65536];
+    let mut check = Check::new(layout);
+    let mut tell = STEP;
+    // A proved loop ends, and nothing says that an input does: these are more blocks (2^46) than an input can have.
+    for _ in 0..0x4000_0000_0000u64 {
+        let goes_on = match block(&mut check, &mut input, &mut from) {
+            Ok(goes_on) => goes_on,
+            Err(error) => return fail(error, &rt),
+        };
+        tell = progress(check.passed, tell, terminal, &rt);
+        if !goes_on {
+            break;
+        }
     }
-    end(r, terminal, &rt)
+    // Progress that was told is wiped away.
+    if terminal && tell > STEP {
+        eprint!(rt; "\r\x1b[K")?;
+    }
+    let mut line = [0; 64];
+    let n = check.report(&mut line);
+    Print::write_all(&rt, &line[..n])
 }

@@ -15,40 +15,45 @@ pub struct Check {
     pub strips: u64,
 }
 
-// No byte yet.
-pub fn start(layout: Layout) -> Check
-    ensures { result ≡ started layout }
-{
-    Check {
-        stream: Stream::new(layout),
-        passed: 0,
-        strips: 0,
+impl Check {
+    // No byte yet.
+    pub fn new(layout: Layout) -> Check
+        ensures { result ≡ started layout }
+    {
+        Check {
+            stream: Stream::new(layout),
+            passed: 0,
+            strips: 0,
+        }
     }
-}
 
-fn extended(n: usize) -> u64
-    ensures { result ≡ n }
-{
-    n as u64
-}
+    // A block more.
+    pub fn take(&mut self, block: &[u8])
+        requires { (self.old.passed + (8 + length block.now) < 2 ^ 64) × (self.old.strips ≤ self.old.passed) }
+        ensures value { self.new ≡ taken self.old block.now }
+        ensures passed_bound { (self.new.passed ≤ self.old.passed + (8 + length block.now)) × (self.new.strips ≤ self.new.passed) }
+    {
+        let f = self.stream.feed(block);
+        self.stream = f.stream;
+        self.passed += f.bytes as u64;
+        self.strips += f.strips as u64;
+    }
 
-// A block more.
-pub fn take(c: Check, block: &[u8]) -> Check
-    requires { (c.passed + (8 + length block.now) < 2 ^ 64) × (c.strips ≤ c.passed) }
-    ensures value { result ≡ taken c block.now }
-    ensures passed_bound { (result.passed ≤ c.passed + (8 + length block.now)) × (result.strips ≤ result.passed) }
-{
-    let before = c.stream;
-    let f = before.feed(block);
-    let after = f.stream;
-    Check {
-        stream: after,
-        passed: c.passed + extended(f.bytes),
-        strips: c.strips + extended(f.strips),
+    // The line at the start of a buffer, and its length.
+    pub fn report(&self, out: &mut [u8]) -> usize
+        requires { length out.old ≡ 64 }
+        ensures out_after { out.new ≡ sets out.old 0 (said self.now) }
+        ensures value { (result ≡ length (said self.now)) × (result ≤ 64) }
+    {
+        if self.stream.at_end() {
+            return sentence(b"well-formed, ", self.strips, b" strips\n", out);
+        }
+        sentence(b"refused 7 at byte ", self.passed, b"\n", out)
     }
 }
 
 // A number between two texts at the start of a buffer, and their length.
+// Kept: std's `write!` promises nothing of what it writes to a slice, and the theorem `said-is` speaks of these bytes.
 fn sentence(front: &[u8], n: u64, back: &[u8], out: &mut [u8]) -> usize
     requires { (length out.old ≡ 64) × (length front.now ≤ 20) × (length back.now ≤ 20) }
     ensures out_after { out.new ≡ sets out.old 0 (front.now ++ decimal_of n ++ back.now) }
@@ -58,17 +63,4 @@ fn sentence(front: &[u8], n: u64, back: &[u8], out: &mut [u8]) -> usize
     let at = decimal(n, out, front.len());
     copy(back, out, at);
     at + back.len()
-}
-
-// The line at the start of a buffer, and its length.
-pub fn report(c: Check, out: &mut [u8]) -> usize
-    requires { length out.old ≡ 64 }
-    ensures out_after { out.new ≡ sets out.old 0 (said c) }
-    ensures value { (result ≡ length (said c)) × (result ≤ 64) }
-{
-    let t = c.stream;
-    if t.at_end() {
-        return sentence(b"well-formed, ", c.strips, b" strips\n", out);
-    }
-    sentence(b"refused 7 at byte ", c.passed, b"\n", out)
 }

@@ -19,7 +19,7 @@ use Rattle.strip.proofs.Run.{Strip, strip-refs, strips-run, strips-shape, shape-
 use Rattle.evaluation.specs.declared.state.State.{State}
 use Rattle.evaluation.specs.Machine.{evaluated, evaluation, answer_of}
 use Rattle.evaluation.proofs.Flat.{evaluated-strips}
-use Rattle.convert.specs.declared.Outcome.TheVariants.{Length}
+use Rattle.std.specs.Prelude.{Ok}
 use Rattle.convert.specs.Convert as C
 use Rattle.convert.specs.Convert.{other, converted, fitted, conversion}
 
@@ -124,6 +124,6 @@ layouts l run bytes ok =
     )
 
 -- an empty run becomes the empty run, also in a room of no bytes
-pub empty-run : (l : Layout) (out : List ℕ) → conversion l [] out ≡ C.answer_of (Length 0) out
+pub empty-run : (l : Layout) (out : List ℕ) → conversion l [] out ≡ C.answer_of (Ok 0) out
 unfolding conversion fitted converted shape_ok decode cut_at_ends reads_from run_bytes
 empty-run l out = rw (le-leb 0 (length out) (omega arith)) refl

@@ -1,4 +1,5 @@
 -- The pass over a run: what each turn keeps, and what it comes to.
+use Rattle.std.specs.Prelude.{Option as Answered, Some, None}
 use mathlib.Core.Path.{◌≡◌, refl, sym, ap, ◌∙◌}
 use mathlib.Core.Bool.{Bool, true, false, cond, false≢true}
 use mathlib.Core.List.{List, [], ◌∷◌, ◌++◌, append-nil, append_assoc}
@@ -12,18 +13,15 @@ use lib.Seq.{sets, sets-eq}
 use borrow.Author.Tests.{eq-eqb, ne_eqb}
 use Rattle.strip.specs.declared.format.Body.{Body}
 use Rattle.strip.specs.declared.reader.Entry.{Entry}
-use Rattle.strip.specs.declared.reader.Read.{Read}
-use Rattle.strip.specs.declared.reader.Read.TheVariants.{Found, Stop}
 use Rattle.strip.specs.declared.shape.Shape.{Shape}
 use Rattle.strip.specs.Format.{format_of}
-use Rattle.strip.specs.Entry.{encode, immediate_of, refs_of, short, whole, read_as, read_entry, reads_from}
+use Rattle.strip.specs.Entry.{Read, encode, immediate_of, refs_of, short, whole, read_as, read_entry, reads_from}
 use Rattle.strip.specs.Shape.{is_end, grown, joined, cut_at_ends, decode, all_ok, shape_ok, strip_bytes, run_bytes}
 use Rattle.strip.specs.Pass.{Ready, fresh, stepped, pass_from}
 use Rattle.strip.proofs.Encode.{encode-length}
 use Rattle.strip.proofs.EntryRead.{found, reads-found, reads-stop, reads_none}
 use Rattle.strip.proofs.Pass.{pass_shape, pass-stop, pass-refused, pass-taken, ready-fresh, step-ready}
 use Rattle.strip.proofs.Write.{sets-append}
-use Rattle.convert.specs.declared.pass.Size.{Size}
 use Rattle.convert.specs.Convert.{converted}
 use Rattle.convert.specs.Pass.{rewritten, Turns, measured, Passes}
 use Rattle.convert.proofs.Turns.{length-turned}
@@ -37,18 +35,18 @@ module _ (to : ℕ) where
   same : (rs : List Read) → Same rs (cut_at_ends rs)
   unfolding Same rewritten cut_at_ends run_bytes strip_bytes
   same [] = refl
-  same (Stop ∷ rs) = tt
-  same (Found e n ∷ rs) = go (cut_at_ends rs) (same rs)
+  same (None ∷ rs) = tt
+  same (Some (e, n) ∷ rs) = go (cut_at_ends rs) (same rs)
     where
-      grows : (ss : List (List Entry)) → rewritten to rs ≡ run_bytes to ss → Same (Found e n ∷ rs) (grown e ss)
+      grows : (ss : List (List Entry)) → rewritten to rs ≡ run_bytes to ss → Same (Some (e, n) ∷ rs) (grown e ss)
       grows [] p = tt
       grows (s ∷ ss) p = ap (λ (l : List ℕ). encode to e ++ l) p ∙ sym (append_assoc (encode to e) (strip_bytes to s) (run_bytes to ss))
 
-      go : (o : Option (List (List Entry))) → Same rs o → Same (Found e n ∷ rs) (joined e o)
+      go : (o : Option (List (List Entry))) → Same rs o → Same (Some (e, n) ∷ rs) (joined e o)
       go none p = tt
       go (some ss) p = ends (is_end e)
         where
-          ends : (b : Bool) → Same (Found e n ∷ rs) (cond b (some ((e ∷ []) ∷ ss)) (grown e ss))
+          ends : (b : Bool) → Same (Some (e, n) ∷ rs) (cond b (some ((e ∷ []) ∷ ss)) (grown e ss))
           ends true = ap (λ (l : List ℕ). encode to e ++ l) p ∙ ap (λ (l : List ℕ). l ++ run_bytes to ss) (sym (append-nil (encode to e)))
           ends false = grows ss p
 
@@ -63,14 +61,14 @@ module _ (to : ℕ) where
 -- an entry grows to twice its bytes at most
 module _ (from to : ℕ) (twice : to ≤ 2 * from) where
   Grown : Read → Type 0
-  Grown (Found e n) = length (encode to e) ≤ 2 * n
-  Grown Stop = Unit {0}
+  Grown (Some (e, n)) = length (encode to e) ≤ 2 * n
+  Grown None = Unit {0}
 
   whole-grown : (s : List ℕ) (size : ℕ) (e : Entry) → suc (length (immediate_of e) + length (refs_of e) * to) ≤ 2 * size → Grown (whole s size e)
   unfolding Grown
   whole-grown s size e h = go (short size s)
     where
-      go : (t : Bool) → Grown (cond t Stop (Found e size))
+      go : (t : Bool) → Grown (cond t None (Some (e, size)))
       go true = tt
       go false = rw (encode-length to e) h
 
@@ -86,7 +84,7 @@ module _ (from to : ℕ) (twice : to ≤ 2 * from) where
   as-grown s k Body.Three = whole-grown s _ _ (omega arith)
   as-grown s k Body.Four = whole-grown s _ _ (omega arith)
 
-  pub grown-twice : (s : List ℕ) (e : Entry) (n : ℕ) → read_entry from s ≡ Found e n → length (encode to e) ≤ 2 * n
+  pub grown-twice : (s : List ℕ) (e : Entry) (n : ℕ) → read_entry from s ≡ Some (e, n) → length (encode to e) ≤ 2 * n
   unfolding Grown read_entry
   grown-twice [] e n p = let z : ◌≡◌ {A = ℕ} 0 1 = cc in absurd (omega arith)
   grown-twice (x ∷ s) e n p = rw p at (as-grown (x ∷ s) x (format_of x).body)
@@ -132,18 +130,18 @@ module _ (from to : ℕ) (twice : to ≤ 2 * from) (run : List ℕ) (writing : B
             ∙ ap (λ (l : List ℕ). l ++ drop (length l) out₀) (rewritten-converted to from run (asked t).0)
         go false f = (h.tested f).1
 
-    ill-formed : (writing ≡ false → false ≡ shape_ok from run) → writing ≡ false → Size.BadShape ≡ measured from to run
+    ill-formed : (writing ≡ false → false ≡ shape_ok from run) → writing ≡ false → ◌≡◌ {A = Answered ℕ} None (measured from to run)
     unfolding measured
     ill-formed p f = rw (← p f) refl
 
-    pub stops : read_entry from left ≡ Stop → 1 ≤ length left → Passes from to run writing out₀ out Size.BadShape
+    pub stops : read_entry from left ≡ None → 1 ≤ length left → Passes from to run writing out₀ out None
     unfolding rewritten
     stops p any =
         let q = reads-stop from left p any in
         record { size = ill-formed (λ f. pass-stop _ _ q ∙ (h.tested f).0); list = last (ap (rewritten to) q) }
 
-    module _ (e : Entry) (n : ℕ) (p : read_entry from left ≡ Found e n) where
-      reads : reads_from from 0 left ≡ Found e n ∷ reads_from from 0 (drop n left)
+    module _ (e : Entry) (n : ℕ) (p : read_entry from left ≡ Some (e, n)) where
+      reads : reads_from from 0 left ≡ Some (e, n) ∷ reads_from from 0 (drop n left)
       reads = reads-found from left e n p
 
       bytes : rewritten to (reads_from from 0 left) ≡ encode to e ++ rewritten to (reads_from from 0 (drop n left))
@@ -164,7 +162,7 @@ module _ (from to : ℕ) (twice : to ≤ 2 * from) (run : List ℕ) (writing : B
         tested-next : writing ≡ false → g' ≡ stepped g e
         tested-next f = t.shape ∙ ap (λ (b : Bool). cond b g (stepped g e)) f
 
-        pub stops_at : g'.left ≡ 0 → Passes from to run writing out₀ out' Size.BadShape
+        pub stops_at : g'.left ≡ 0 → Passes from to run writing out₀ out' None
         stops_at z = record {
           size = ill-formed (λ f. pass-refused _ _ e n _ reads (ap (λ (s : Shape). s.left) (sym (tested-next f)) ∙ z) ∙ (h.tested f).0);
           list = go writing refl;
@@ -211,14 +209,14 @@ module _ (from to : ℕ) (twice : to ≤ 2 * from) (run : List ℕ) (writing : B
       unfolding pass_from
       shaped f = ap (pass_from g) (sym none_left) ∙ (h.tested f).0
 
-      pub stops-open : (g.left ≡ 64 → ⊥) → Passes from to run writing out₀ out Size.BadShape
+      pub stops-open : (g.left ≡ 64 → ⊥) → Passes from to run writing out₀ out None
       stops-open ne = record { size = ill-formed (λ f. sym (ne_eqb g.left 64 ne) ∙ shaped f); list = last nothing }
 
-      pub finished : g.left ≡ 64 → Passes from to run writing out₀ out (Size.Bytes at)
+      pub finished : g.left ≡ 64 → Passes from to run writing out₀ out (Some at)
       unfolding measured
       finished is = record { size = measures; list = last nothing }
         where
-          measures : writing ≡ false → Size.Bytes at ≡ measured from to run
+          measures : writing ≡ false → ◌≡◌ {A = Answered ℕ} (Some at) (measured from to run)
           measures f =
               let ok : shape_ok from run ≡ true = sym (shaped f) ∙ eq-eqb g.left 64 is in
               let n : at ≡ length (converted from to run) = omega (arith, h.size, ap length nothing) ∙ ap length (rewritten-converted to from run ok) in

@@ -1,22 +1,34 @@
-// From one layout to the other (#102): the same strips, each reference in one byte instead of two or in two instead of one.
+// From one layout to the other (02, #102): the same strips, each reference in one byte instead of two or in two instead of one.
 #![tactic(auto)]
 
 mod pass;
 
 ghost use Rattle.std.specs.Prelude.{◌≡◌};
-ghost use Rattle.convert.specs.Convert.{other, answer_of, conversion};
+ghost use Rattle.convert.specs.Convert.{refusal_number, other, answer_of, conversion};
 
-use pass::{Size, pass};
+use pass::pass;
 use strip::Layout;
 
-// What converting answers: the length of what was written, or why nothing was. 02's numbers of the refusals: 7, 6 in this order.
-#[derive(Clone, Copy)]
-pub enum Outcome {
-    Length(usize),
+// Why a run is not converted. 02's numbers: 7, 6 in this order.
+#[derive(Clone, Copy, Debug, PartialEq, Eq)]
+pub enum Refusal {
     // The run is not well-formed in its layout.
     BadShape,
     // What it becomes is longer than the room.
     NoRoom,
+}
+
+// 02's number.
+#[tactic(auto, unfolding(crate::specs::Convert::refusal_number))]
+impl From<Refusal> for u32 {
+    ghost from_gives = { λ r number. number ≡ refusal_number r };
+
+    fn from(r: Refusal) -> u32 {
+        match r {
+            Refusal::BadShape => 7,
+            Refusal::NoRoom => 6,
+        }
+    }
 }
 
 // The layout that a run of this one becomes.
@@ -29,18 +41,18 @@ fn other(layout: Layout) -> Layout
     }
 }
 
-// A run in the layout that is stated becomes one in the other, at the start of the room. The whole run is tested, and measured, before anything is
-// written: a refusal touches nothing.
-pub fn convert(run: &[u8], layout: Layout, out: &mut [u8]) -> Outcome
+// A run in the layout that is stated becomes one in the other, at the start of the room; the length of what was written. The whole run is tested, and
+// measured, before anything is written: a refusal touches nothing.
+pub fn convert(run: &[u8], layout: Layout, out: &mut [u8]) -> Result<usize, Refusal>
     ensures { answer_of result out.new ≡ conversion layout run.now out.old }
 {
     let to = other(layout);
-    let Size::Bytes(n) = pass(run, layout, to, out, false) else {
-        return Outcome::BadShape;
+    let Some(n) = pass(run, layout, to, out, false) else {
+        return Err(Refusal::BadShape);
     };
     if out.len() < n {
-        return Outcome::NoRoom;
+        return Err(Refusal::NoRoom);
     }
     pass(run, layout, to, out, true);
-    Outcome::Length(n)
+    Ok(n)
 }

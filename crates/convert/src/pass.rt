@@ -8,7 +8,7 @@ ghost use Rattle.strip.specs.Pass.{Ready};
 ghost use Rattle.convert.specs.Convert.{converted};
 ghost use Rattle.convert.specs.Pass.{Turns, Passes};
 
-use strip::{Entry, Layout, Read, Shape};
+use strip::{Entry, Layout, Shape};
 
 // An entry is tested or, where the run was tested, written.
 fn turn(g: Shape, to: Layout, out: &mut [u8], at: usize, writing: bool, e: Entry) -> Shape
@@ -22,36 +22,29 @@ fn turn(g: Shape, to: Layout, out: &mut [u8], at: usize, writing: bool, e: Entry
     g.entry(e)
 }
 
-// How many bytes the run takes in the other layout; or that it is not well-formed.
-#[derive(Clone, Copy)]
-pub enum Size {
-    Bytes(usize),
-    BadShape,
-}
-
-pub fn pass(run: &[u8], from: Layout, to: Layout, out: &mut [u8], writing: bool) -> Size
+// How many bytes the run takes in the other layout, or none where it is not well-formed.
+// Kept: a flag says which step to run, and not a closure: with a loop for each step the reader has two callers (docs/DECISIONS.md, The converter).
+pub fn pass(run: &[u8], from: Layout, to: Layout, out: &mut [u8], writing: bool) -> Option<usize>
     requires { writing ≡ true → (shape_ok (ref_length from) run.now ≡ true) × (length (converted (ref_length from) (ref_length to) run.now) ≤ length out.old) }
     ensures { Passes (ref_length from) (ref_length to) run.now writing out.old out.new result }
 {
     let mut g = Shape::new();
     let mut rest = run;
     let mut at = 0;
-    while 0 < rest.len() {
-        let Read::Found(e, n) = strip::read_entry(rest, from) else {
-            return Size::BadShape;
+    while !rest.is_empty() {
+        let Some((e, n)) = strip::read_entry(rest, from) else {
+            return None;
         };
         let next = at + strip::entry_length(to, e);
         g = turn(g, to, out, at, writing, e);
-        let left = g.left;
-        if left == 0 {
-            return Size::BadShape;
+        if g.left == 0 {
+            return None;
         }
         at = next;
         rest = &rest[n..];
     }
-    let left = g.left;
-    if left == 64 {
-        return Size::Bytes(at);
+    if g.left == 64 {
+        return Some(at);
     }
-    Size::BadShape
+    None
 }

@@ -1,7 +1,7 @@
 -- What the converter answers a C caller.
-use Rattle.std.specs.Prelude.{ℕ, cond, List, eqb}
-use Rattle.strip.specs.declared.format.Numbered.{Numbered}
-use Rattle.strip.specs.declared.format.Numbered.TheVariants.{Known, Unknown}
+use Rattle.std.specs.Prelude.{ℕ, cond, List, eqb, Result, Ok, Err}
+use Rattle.strip.specs.declared.format.Layout.{Layout}
+use Rattle.strip.specs.declared.format.UnknownLayout.{UnknownLayout}
 use Rattle.convert.specs.Convert.{conversion}
 use Rattle.convert.specs.Convert as Conversion
 
@@ -19,6 +19,6 @@ abbrev pub handed_back : Conversion.Answer → ℕ → Answer
 handed_back a written = returns a.number (cond (eqb a.number 0) a.length written) a.out
 
 -- a number that names no layout: no run is well-formed
-unfoldable pub convert_answer : Numbered → List ℕ → List ℕ → ℕ → Answer
-convert_answer (Known l) run out written = handed_back (conversion l run out) written
-convert_answer Unknown run out written = returns 7 written out
+unfoldable pub convert_answer : Result Layout UnknownLayout → List ℕ → List ℕ → ℕ → Answer
+convert_answer (Ok l) run out written = handed_back (conversion l run out) written
+convert_answer (Err e) run out written = returns 7 written out

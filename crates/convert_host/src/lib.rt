@@ -5,8 +5,8 @@ ghost use Rattle.std.specs.Prelude.{◌≡◌};
 ghost use Rattle.strip.specs.Entry.{layout_numbered};
 ghost use Rattle.convert_host.specs.Converted.{returns, convert_answer};
 
-use convert::Outcome;
-use strip::Numbered;
+use convert::convert;
+use strip::Layout;
 
 // A run in the layout of this number becomes one in the other layout, at the start of out, its length in `written`. 0 where it was converted; 7 where the
 // run is not well-formed, and for no layout, then 6 where out is too short; a refusal leaves `written` and out as they were.
@@ -19,15 +19,14 @@ pub extern "C" fn mehkura_convert(
 ) -> u32
     ensures { returns result written.new out.new ≡ convert_answer (layout_numbered layout) run.now out.old written.old }
 {
-    let Numbered::Known(l) = strip::layout_numbered(layout) else {
+    let Ok(l) = Layout::try_from(layout) else {
         return 7;
     };
-    match convert::convert(run, l, out) {
-        Outcome::Length(n) => {
+    match convert(run, l, out) {
+        Ok(n) => {
             *written = n;
             0
         }
-        Outcome::BadShape => 7,
-        Outcome::NoRoom => 6,
+        Err(r) => u32::from(r),
     }
 }

@@ -6,20 +6,19 @@ use mathlib.Core.Bool.{false≢true}
 use Rattle.strip.specs.declared.reader.Entry.{Entry}
 use Rattle.strip.specs.Shape.{decode, shape_ok}
 use Rattle.evaluation.specs.declared.state.State.{State}
-use Rattle.evaluation.specs.declared.machine.Outcome.{Outcome}
-use Rattle.evaluation.specs.declared.machine.Outcome.TheVariants.{Done, Refused}
+use Rattle.std.specs.Prelude.{Ok, Err}
 use Rattle.evaluation.specs.declared.machine.Refusal.TheVariants.{BadShape, UndefinedValue, NoConstant}
 use Rattle.evaluation.specs.declared.machine.Evaluated.{Evaluated}
-use Rattle.evaluation.specs.Machine.{Effect, Push, SetReg, SetPred, SetFlag, Enter, Pass, Finish, Refuse, Midway, begun, refusal_told, told, is_done, entering, bare_effect, cell_effect, one_effect, four_effect, effect_of, muted, taken_effect, outcome_of, applied, ends, entries_from, strips_from, restored, returns, evaluated, evaluation}
+use Rattle.evaluation.specs.Machine.{Outcome, Effect, Push, SetReg, SetPred, SetFlag, Enter, Pass, Finish, Refuse, Midway, begun, refusal_told, told, is_done, entering, bare_effect, cell_effect, one_effect, four_effect, effect_of, muted, taken_effect, outcome_of, applied, ends, entries_from, strips_from, restored, returns, evaluated, evaluation}
 use Rattle.evaluation.proofs.Laws.{cond-all, with-truth, store-all, address-cases}
 
 -- ---- the numbers that an answer carries
 carries : (o : Outcome) → length (told o).carried ≡ cond (eqb (told o).number 9) 3 0
 unfolding told refusal_told
-carries Done = refl
-carries (Refused BadShape) = refl
-carries (Refused UndefinedValue) = refl
-carries (Refused (NoConstant slot vec comp)) = refl
+carries (Ok u) = refl
+carries (Err BadShape) = refl
+carries (Err UndefinedValue) = refl
+carries (Err (NoConstant slot vec comp)) = refl
 
 -- ---- no entry refuses with 7
 abbrev Not7 : Outcome → Type 0
@@ -81,7 +80,7 @@ module _ (cs : List ℕ) where
         let fit : Fit (evaluated len run s cs) = rw ok (stored-all-fit s _ (strips-fit s (get_or (decode len run) []))) in
         false≢true (sym fit ∙ ap (λ (n : ℕ). eqb n 7) is)
 
-    pub well-formed-passes : shape_ok len run ≡ true → (evaluated len run s cs).outcome ≡ Refused BadShape → ⊥
+    pub well-formed-passes : shape_ok len run ≡ true → (evaluated len run s cs).outcome ≡ Err BadShape → ⊥
     unfolding told refusal_told
     well-formed-passes ok is = well-formed-not-7 ok (ap (λ (o : Outcome). (told o).number) is)
 

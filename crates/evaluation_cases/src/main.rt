@@ -8,11 +8,12 @@ ghost use Rattle.std.specs.Prelude.{◌≡◌, ◌≤◌, length};
 ghost use Rattle.evaluation.specs.Machine.{told};
 
 use ascii::read_full;
-use evaluation::{Outcome, Refusal, State};
+use evaluation::{Refusal, State};
 use std::io;
 use strip::Layout;
 
 // Element i becomes i * step, without what lies above bit 31.
+// Kept: works has the same: the programs share ascii alone.
 fn fill(words: &mut [u32], step: u32) {
     let mut word = 0u32;
     for x in words.iter_mut() {
@@ -26,103 +27,60 @@ fn start() -> State {
     let mut regs = [0u32; 255];
     fill(&mut regs, 0x01010101);
     State {
-        regs: regs,
+        regs,
         preds: [false, true, false, true, false, true, false],
         flags: [false, true, false, true],
     }
 }
 
 // 01's number, 0 where the run was evaluated.
-fn number_of(o: Outcome) -> u64
+fn number_of(o: Result<(), Refusal>) -> u32
     ensures { result ≡ (told o).number }
 {
     match o {
-        Outcome::Done => 0,
-        Outcome::Refused(r) => evaluation::refusal_number(r) as u64,
+        Ok(_) => 0,
+        Err(r) => u32::from(r),
     }
-}
-
-fn numbered(name: &str, n: u64, digits: usize, to: &impl Print) -> io::Result<()> {
-    print!(to; "{name}{n:0digits$x}")
 }
 
 // ` slot=03 vec=00000011 comp=00000002` with 9.
-fn fault(o: Outcome, to: &impl Print) -> io::Result<()> {
-    let Outcome::Refused(r) = o else {
-        return Ok(());
-    };
-    let Refusal::NoConstant(slot, vec, comp) = r else {
-        return Ok(());
-    };
-    numbered(" slot=", slot as u64, 2, to)?;
-    numbered(" vec=", vec as u64, 8, to)?;
-    numbered(" comp=", comp as u64, 8, to)
-}
-
-// ` R05=0000002a` where the register changed.
-fn register(n: u64, before: u32, after: u32, to: &impl Print) -> io::Result<()> {
-    if before != after {
-        numbered(" R", n, 2, to)?;
-        numbered("=", after as u64, 8, to)?;
+fn fault(o: Result<(), Refusal>, to: &impl Print) -> io::Result<()> {
+    if let Err(Refusal::NoConstant(slot, vec, comp)) = o {
+        print!(to; " slot={slot:02x} vec={vec:08x} comp={comp:08x}")?;
     }
     Ok(())
 }
 
-fn registers(before: &[u32; 255], after: &[u32; 255], to: &impl Print) -> io::Result<()> {
-    for n in 0..255usize {
-        register(n as u64, before[n], after[n], to)?;
+// Each cell that differs: ` R05=0000002a`, ` P3=1`, ` C=0`.
+fn changes(before: &State, after: &State, to: &impl Print) -> io::Result<()> {
+    for (n, (old, new)) in before.regs.iter().zip(&after.regs).enumerate() {
+        if old != new {
+            print!(to; " R{n:02x}={new:08x}")?;
+        }
+    }
+    for (n, (old, new)) in before.preds.iter().zip(&after.preds).enumerate() {
+        if old != new {
+            let bit = u8::from(*new);
+            print!(to; " P{n}={bit}")?;
+        }
+    }
+    for (n, (old, new)) in before.flags.iter().zip(&after.flags).enumerate() {
+        if old != new {
+            let name = ['Z', 'S', 'C', 'O'][n];
+            let bit = u8::from(*new);
+            print!(to; " {name}={bit}")?;
+        }
     }
     Ok(())
-}
-
-// ` P3=1` or ` C=0` where the truth changed.
-fn truth(name: &str, before: bool, after: bool, to: &impl Print) -> io::Result<()> {
-    if before != after {
-        let bit = u8::from(after);
-        print!(to; "{name}{bit}")?;
-    }
-    Ok(())
-}
-
-fn predicates(before: &[bool; 7], after: &[bool; 7], to: &impl Print) -> io::Result<()> {
-    truth(" P0=", before[0], after[0], to)?;
-    truth(" P1=", before[1], after[1], to)?;
-    truth(" P2=", before[2], after[2], to)?;
-    truth(" P3=", before[3], after[3], to)?;
-    truth(" P4=", before[4], after[4], to)?;
-    truth(" P5=", before[5], after[5], to)?;
-    truth(" P6=", before[6], after[6], to)
-}
-
-fn flags(before: &[bool; 4], after: &[bool; 4], to: &impl Print) -> io::Result<()> {
-    truth(" Z=", before[0], after[0], to)?;
-    truth(" S=", before[1], after[1], to)?;
-    truth(" C=", before[2], after[2], to)?;
-    truth(" O=", before[3], after[3], to)
-}
-
-// Each cell that differs.
-fn changes(before: State, after: State, to: &impl Print) -> io::Result<()> {
-    let r = before.regs;
-    let s = after.regs;
-    registers(&r, &s, to)?;
-    let p = before.preds;
-    let q = after.preds;
-    predicates(&p, &q, to)?;
-    let f = before.flags;
-    let g = after.flags;
-    flags(&f, &g, to)
 }
 
 // The number and the cells of a run.
 fn answer(run: &[u8], constants: &[u32], to: &impl Print) -> io::Result<()> {
     let before = start();
     let r = evaluation::evaluate(run, Layout::Wide, before, constants);
-    let o = r.outcome;
-    let after = r.state;
-    to.print(number_of(o))?;
-    fault(o, to)?;
-    changes(before, after, to)
+    to.print(number_of(r.outcome))?;
+    fault(r.outcome, to)?;
+    changes(&before, &r.state, to)
 }
 
 // The value of a hex digit; 0 for any other byte.
@@ -140,61 +98,38 @@ fn digit(b: u8) -> u8
 fn number(hex: &[u8]) -> u32 {
     let mut n = 0u32;
     for b in hex {
-        n = (n << 4) | (digit(*b) as u32);
+        n = n << 4 | u32::from(digit(*b));
     }
     n
-}
-
-fn least(a: usize, b: usize) -> usize
-    ensures upper_bound { result ≤ a }
-    ensures upper_bound_2 { result ≤ b }
-{
-    if a < b { a } else { b }
 }
 
 // Puts the bytes that pairs of hex digits spell at the start of a list, as far as it reaches, and answers how many there are.
 fn decode(hex: &[u8], bytes: &mut [u8]) -> usize
     ensures { result ≤ length bytes.new }
 {
-    let n = least(hex.len() / 2, bytes.len());
-    for i in 0..n {
-        bytes[i] = digit(hex[2 * i]) * 16 + digit(hex[2 * i + 1]);
+    for (byte, pair) in bytes.iter_mut().zip(hex.chunks_exact(2)) {
+        *byte = digit(pair[0]) * 16 + digit(pair[1]);
     }
-    n
-}
-
-// The place of the first byte b from a place on, or the end.
-fn find(s: &[u8], from: usize, b: u8) -> usize
-    requires { from ≤ length s.now }
-    ensures lower_bound { from ≤ result }
-    ensures upper_bound { result ≤ length s.now }
-{
-    for i in from..s.len() {
-        if s[i] == b {
-            return i;
-        }
-    }
-    s.len()
+    (hex.len() / 2).min(bytes.len())
 }
 
 // One case: a run has at most 1024 bytes.
 fn case(hex: &[u8], lent: u32, constants: &[u32], to: &impl Print) -> io::Result<()> {
     let mut bytes = [0u8; 1024];
     let n = decode(hex, &mut bytes);
-    let k = least(lent as usize, constants.len());
-    answer(&bytes[0..n], &constants[0..k], to)
+    let k = constants.len().min(lent as usize);
+    answer(&bytes[..n], &constants[..k], to)
 }
 
 // A line of the input. One without a second field is no case and says nothing.
 fn line(s: &[u8], constants: &[u32], to: &impl Print) -> io::Result<()> {
-    let a = find(s, 0, b' ');
-    if a == s.len() {
+    let Some(a) = s.iter().position(|b| *b == b' ') else {
         return Ok(());
-    }
-    let from = a + 1;
-    let b = find(s, from, b' ');
-    case(&s[from..b], number(&s[0..a]), constants, to)?;
-    to.write_all(&s[b..])?;
+    };
+    let rest = &s[a + 1..];
+    let end = rest.iter().position(|b| *b == b' ').unwrap_or(rest.len());
+    case(&rest[..end], number(&s[..a]), constants, to)?;
+    to.write_all(&rest[end..])?;
     print!(to; "\n")
 }
 
@@ -206,11 +141,13 @@ fn lines(s: &[u8], constants: &[u32], to: &impl Print) -> io::Result<()> {
 }
 
 // The 32 slots' words.
+// Kept: as a literal in main the zeros are computed in each goal there, and the check ran for ten minutes and left four open.
 fn slots() -> [u32; 524288] {
     [0; 524288]
 }
 
 // Room for the whole input.
+// Kept: as `slots` is.
 fn page() -> [u8; 262144] {
     [0; 262144]
 }
@@ -220,7 +157,6 @@ fn main(rt: HostRuntime) -> io::Result<()> {
     let mut constants = slots();
     fill(&mut constants, 0x9e3779b1);
     let mut input = page();
-    let mut from = rt.stdin();
-    let n = read_full(&mut from, &mut input);
+    let (n, _) = read_full(&mut rt.stdin(), &mut input);
     lines(&input[..n], &constants, &rt)
 }

@@ -1,4 +1,5 @@
 -- A state in two lists, and what `mehkura_evaluate` answers case by case.
+use Rattle.std.specs.Prelude.{Result, Ok, Err}
 use mathlib.Core.Path.{◌≡◌, refl}
 use mathlib.Core.List.{List, [], ◌++◌, map}
 use mathlib.Core.Bool.{Bool, cond}
@@ -8,12 +9,11 @@ use lib.ListN.{length}
 use lib.Dec.{eqb}
 use lib.Seq.{sets}
 use Rattle.strip.specs.declared.format.Layout.{Layout}
-use Rattle.strip.specs.declared.format.Numbered.{Numbered}
-use Rattle.strip.specs.declared.format.Numbered.TheVariants.{Known, Unknown}
+use Rattle.strip.specs.declared.format.UnknownLayout.{UnknownLayout}
 use Rattle.strip.specs.Entry.{ref_length}
 use Rattle.evaluation.specs.declared.state.State.{State}
 use Rattle.evaluation.specs.declared.machine.Evaluated.{Evaluated}
-use Rattle.evaluation.specs.declared.machine.Outcome.TheVariants.{Done, Refused}
+use Rattle.std.specs.Prelude.{Ok, Err}
 use Rattle.evaluation.specs.declared.machine.Refusal.{Refusal}
 use Rattle.evaluation.specs.declared.machine.Refusal.TheVariants.{BadShape, UndefinedValue, NoConstant}
 use Rattle.evaluation.specs.Machine.{refusal_told, told, Answer, answer_of, evaluation}
@@ -35,7 +35,7 @@ truths-written {ts₁} s ts p f h e₁ e₂ =
     whole (s.preds ++ s.flags) 11 (appended ts₁ s.preds s.flags 7 4 11 f (omega arith) (appended ts [] s.preds 0 7 11 p (omega arith) (refl, h) e₁) e₂)
 
 -- ---- the answer
-module _ (layout : Numbered) (run rs ts cs fault : List ℕ) where
+module _ (layout : Result Layout UnknownLayout) (run rs ts cs fault : List ℕ) where
   pub wrong-registers : (length rs ≡ 255 → ⊥) → returns 7 rs ts fault ≡ evaluate_answer layout run rs ts cs fault
   unfolding evaluate_answer
   wrong-registers h = rw (ne_eqb (length rs) 255 h)
@@ -44,16 +44,16 @@ module _ (layout : Numbered) (run rs ts cs fault : List ℕ) where
   unfolding evaluate_answer
   wrong-truths e h = rw (eq-eqb (length rs) 255 e, ne_eqb (length ts) 11 h)
 
-  pub no-layout : length rs ≡ 255 → length ts ≡ 11 → layout ≡ Unknown → returns 7 rs ts fault ≡ evaluate_answer layout run rs ts cs fault
+  pub no-layout : length rs ≡ 255 → length ts ≡ 11 → {e : UnknownLayout} → layout ≡ Err e → returns 7 rs ts fault ≡ evaluate_answer layout run rs ts cs fault
   unfolding evaluate_answer evaluate_in
   no-layout e h u = rw (eq-eqb (length rs) 255 e, eq-eqb (length ts) 11 h, u)
 
-  pub ran : {s : State} {a : Answer} (l : Layout) → length rs ≡ 255 → length ts ≡ 11 → layout ≡ Known l → s ≡ state_in rs ts → a ≡ evaluation (ref_length l) run s cs → handed_back a rs ts fault ≡ evaluate_answer layout run rs ts cs fault
+  pub ran : {s : State} {a : Answer} (l : Layout) → length rs ≡ 255 → length ts ≡ 11 → layout ≡ Ok l → s ≡ state_in rs ts → a ≡ evaluation (ref_length l) run s cs → handed_back a rs ts fault ≡ evaluate_answer layout run rs ts cs fault
   unfolding evaluate_answer evaluate_in
   ran l e h k p q = rw (eq-eqb (length rs) 255 e, eq-eqb (length ts) 11 h, k, ← p, ← q)
 
 module _ (r : Evaluated) (rs ts fault : List ℕ) where
-  pub done : {rs' ts' : List ℕ} → r.outcome ≡ Done → rs' ≡ r.state.regs → ts' ≡ truth_bytes r.state → returns 0 rs' ts' fault ≡ handed_back (answer_of r) rs ts fault
+  pub done : {rs' ts' : List ℕ} → r.outcome ≡ Ok tt → rs' ≡ r.state.regs → ts' ≡ truth_bytes r.state → returns 0 rs' ts' fault ≡ handed_back (answer_of r) rs ts fault
   unfolding handed_back told
   done o p q = rw (o, p, q)
 
@@ -61,7 +61,7 @@ module _ (r : Evaluated) (rs ts fault : List ℕ) where
   abbrev placed : Refusal → List ℕ
   placed f = cond (eqb (refusal_told f).number 9) (refusal_told f).carried fault
 
-  pub refused : (f : Refusal) → r.outcome ≡ Refused f → returns (refusal_told f).number rs ts (placed f) ≡ handed_back (answer_of r) rs ts fault
+  pub refused : (f : Refusal) → r.outcome ≡ Err f → returns (refusal_told f).number rs ts (placed f) ≡ handed_back (answer_of r) rs ts fault
   unfolding handed_back told refusal_told
   refused BadShape o = rw o
   refused UndefinedValue o = rw o

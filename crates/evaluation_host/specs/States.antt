@@ -1,7 +1,7 @@
 -- A state as the exported functions take it: 255 words, and 11 bytes for the predicates and the flags.
-use Rattle.std.specs.Prelude.{ℕ, cond, ◌&&◌, List, ◌++◌, map, length, eqb}
-use Rattle.strip.specs.declared.format.Numbered.{Numbered}
-use Rattle.strip.specs.declared.format.Numbered.TheVariants.{Known, Unknown}
+use Rattle.std.specs.Prelude.{ℕ, cond, ◌&&◌, List, ◌++◌, map, length, eqb, Result, Ok, Err}
+use Rattle.strip.specs.declared.format.Layout.{Layout}
+use Rattle.strip.specs.declared.format.UnknownLayout.{UnknownLayout}
 use Rattle.strip.specs.Entry.{ref_length}
 use Rattle.evaluation.specs.declared.state.State.{State}
 use Rattle.evaluation.specs.Machine.{evaluation}
@@ -33,10 +33,10 @@ handed_back a rs ts fault =
     (returns a.number rs ts (cond (eqb a.number 9) a.carried fault))
 
 -- a number that names no layout: no run is well-formed
-unfoldable pub evaluate_in : Numbered → List ℕ → List ℕ → List ℕ → List ℕ → List ℕ → Answer
-evaluate_in (Known l) run rs ts constants fault = handed_back (evaluation (ref_length l) run (state_in rs ts) constants) rs ts fault
-evaluate_in Unknown run rs ts constants fault = returns 7 rs ts fault
+unfoldable pub evaluate_in : Result Layout UnknownLayout → List ℕ → List ℕ → List ℕ → List ℕ → List ℕ → Answer
+evaluate_in (Ok l) run rs ts constants fault = handed_back (evaluation (ref_length l) run (state_in rs ts) constants) rs ts fault
+evaluate_in (Err e) run rs ts constants fault = returns 7 rs ts fault
 
 -- lists of another length hold no state
-unfoldable pub evaluate_answer : Numbered → List ℕ → List ℕ → List ℕ → List ℕ → List ℕ → Answer
+unfoldable pub evaluate_answer : Result Layout UnknownLayout → List ℕ → List ℕ → List ℕ → List ℕ → List ℕ → Answer
 evaluate_answer layout run rs ts constants fault = cond (eqb (length rs) 255 && eqb (length ts) 11) (evaluate_in layout run rs ts constants fault) (returns 7 rs ts fault)

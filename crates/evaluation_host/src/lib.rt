@@ -5,21 +5,9 @@ ghost use Rattle.std.specs.Prelude.{◌≡◌, ◌∷◌, [], length};
 ghost use Rattle.strip.specs.Entry.{layout_numbered};
 ghost use Rattle.evaluation_host.specs.States.{state_in, truth_bytes, returns, evaluate_answer};
 
-use evaluation::{Outcome, Refusal, State};
-use strip::Numbered;
+use evaluation::{Refusal, State};
+use strip::Layout;
 use truth_bytes::{read_truths, write_truths};
-
-// Words, one list over another.
-fn copy_words(from: &[u32], to: &mut [u32])
-    requires { length from.now ≡ length to.old }
-    ensures { to.new ≡ from.now }
-{
-    let mut i = 0;
-    while i < to.len() {
-        to[i] = from[i];
-        i += 1;
-    }
-}
 
 // The state that two lists hold.
 fn state_in(registers: &[u32], truths: &[u8]) -> State
@@ -29,7 +17,7 @@ fn state_in(registers: &[u32], truths: &[u8]) -> State
     let mut regs = [0u32; 255];
     let mut preds = [false; 7];
     let mut flags = [false; 4];
-    copy_words(registers, &mut regs);
+    regs.copy_from_slice(registers);
     read_truths(truths, 0, &mut preds);
     read_truths(truths, 7, &mut flags);
     State {
@@ -47,14 +35,14 @@ fn state_out(state: State, registers: &mut [u32], truths: &mut [u8])
     let regs = state.regs;
     let preds = state.preds;
     let flags = state.flags;
-    copy_words(&regs, registers);
+    registers.copy_from_slice(&regs);
     write_truths(&preds, truths, 0);
     write_truths(&flags, truths, 7);
 }
 
 // A run in the layout of this number, from a state, in place: 255 registers, and 11 bytes for the 7 predicates and the flags Z, S, C, O (nonzero is true, answered as 1).
 // 0 where the run was evaluated; 7, 8 or 9 where it was refused, and 7 for a wrong length or no layout; a refusal leaves registers and truths as they were.
-// Slot, vec and comp are written with 9 alone: what the address asked for. One match tells the cases: a second one costs a copy of the state.
+// Slot, vec and comp are written with 9 alone: what the address asked for. One match tells whether it was refused: a second one costs a copy of the state.
 #[unsafe(no_mangle)]
 pub extern "C" fn mehkura_evaluate(
     run: &[u8],
@@ -74,22 +62,23 @@ pub extern "C" fn mehkura_evaluate(
     if truths.len() != 11 {
         return 7;
     }
-    let Numbered::Known(l) = strip::layout_numbered(layout) else {
+    let Ok(l) = Layout::try_from(layout) else {
         return 7;
     };
     let r = evaluation::evaluate(run, l, state_in(registers, truths), constants);
     let o = r.outcome;
     let state = r.state;
     match o {
-        Outcome::Done => {
+        Ok(()) => {
             state_out(state, registers, truths);
             0
         }
-        Outcome::Refused(f) => match f {
+        // Kept: a match in the match. What `Err(Refusal::BadShape)` in one pattern tells of the refusal did not close the proof.
+        Err(f) => match f {
             Refusal::BadShape => 7,
             Refusal::UndefinedValue => 8,
             Refusal::NoConstant(s, v, c) => {
-                *slot = s as u32;
+                *slot = u32::from(s);
                 *vec = v;
                 *comp = c;
                 9

@@ -8,7 +8,9 @@ use lib.ListN.{length}
 use lib.Seq.{sets}
 use borrow.Author.Tests.{eq-eqb, ne_eqb}
 use Rattle.reach.specs.declared.cells.Cells.{Cells}
-use Rattle.reach.specs.declared.cells.Outcome.TheVariants.{Done, BadShape}
+use Rattle.std.specs.Prelude.{Ok, Err}
+use Rattle.reach.specs.declared.cells.Refusal.{Refusal}
+use Rattle.reach.specs.declared.cells.Refusal.TheVariants.{BadShape}
 use Rattle.reach.specs.declared.cells.Reached.{Reached}
 use Rattle.reach.specs.Reach as R
 use Rattle.truth_bytes.specs.Truths.{truth_byte, truths_at}
@@ -33,7 +35,7 @@ cells-written {l₁} {l₂} {l₃} {l₄} c l r p f s h e₁ e₂ e₃ e₄ =
 -- ---- the answer
 module _ (run bytes : List ℕ) where
   pub wrong-length : (length bytes ≡ 298 → ⊥) → returns 7 bytes ≡ reach_answer run bytes
-  unfolding reach_answer R.number_of
+  unfolding reach_answer
   wrong-length h = rw (ne_eqb (length bytes) 298 h)
 
   pub ran : {c : Cells} (r : Reached) → length bytes ≡ 298 → c ≡ cells_in bytes → R.answer_of r ≡ R.reach_answer run c → handed_back (R.answer_of r) bytes ≡ reach_answer run bytes
@@ -41,10 +43,10 @@ module _ (run bytes : List ℕ) where
   ran r e p q = rw (eq-eqb (length bytes) 298 e, ← p, ← q)
 
 module _ (r : Reached) (bytes : List ℕ) where
-  pub done : {bytes' : List ℕ} → r.outcome ≡ Done → bytes' ≡ cell_bytes r.cells → returns 0 bytes' ≡ handed_back (R.answer_of r) bytes
+  pub done : {bytes' : List ℕ} → r.outcome ≡ Ok tt → bytes' ≡ cell_bytes r.cells → returns 0 bytes' ≡ handed_back (R.answer_of r) bytes
   unfolding R.number_of
   done o p = rw (o, p)
 
-  pub refused : r.outcome ≡ BadShape → returns 7 bytes ≡ handed_back (R.answer_of r) bytes
+  pub refused : (e : Refusal) → r.outcome ≡ Err e → returns (R.refusal_number e) bytes ≡ handed_back (R.answer_of r) bytes
   unfolding R.number_of
-  refused o = rw (o)
+  refused BadShape o = rw (o)

@@ -1,27 +1,28 @@
 -- Words in bytes: what the loops over the marks keep, and what `mehkura_translate` answers case by case.
+use Rattle.std.specs.Prelude.{Ok, Err}
 use mathlib.Core.Path.{◌≡◌, refl, sym, ap, ◌∙◌}
 use mathlib.Core.List.{List, [], ◌∷◌, ◌++◌, append_assoc, append-nil}
 use Prim.Native.Nat.{ℕ, zero, suc, ◌+◌, ◌*◌, ◌≤◌, ◌<◌}
 use native.Mathlib.Omega.{arith}
-use native.Mathlib.Numerals.{towards_suc}
+use native.Mathlib.Numerals.{towards_suc, add-one}
+use Rattle.std.proofs.lemmas.Slice.{take-put_mid}
+use borrow.Rule.Slice.PartMut.{put_mid}
 use lib.ListN.{length, take, get_or, set}
-use lib.Seq.{take_all, take-suc, take-suc-set, sets}
+use lib.Seq.{take_all, take-suc, take-suc-set}
 use borrow.Author.Tests.{eq-eqb, ne_eqb}
 use Rattle.strip.specs.Entry.{wide, word_at, word_bytes, read_entry, read_as, encode, kind_of, immediate_of, refs_of, short}
 use Rattle.strip.specs.declared.reader.Entry.TheVariants as Entry
 use Rattle.strip.specs.Format.{format_of}
 use Rattle.strip.proofs.Encode.{Bytes, read_is}
-use Rattle.translation.specs.declared.answer.Outcome.TheVariants.{Written, Refused}
 use Rattle.translation.specs.declared.answer.Refusal.{Refusal}
 use Rattle.translation.specs.declared.answer.Translated.{Translated}
 use Rattle.translation.specs.Strip as T
 use Rattle.translation.specs.Whole.{decision_of}
-use Rattle.truth_bytes.proofs.Lists.{sets-upto}
 use Rattle.host.specs.Marks.{words_in, mark_bytes, returns, by_outcome, handed_back, translate_answer}
 
 -- ---- the marks, word by word
 
--- no word is read yet, one more, all
+-- no word is read yet, one more
 pub words-start : (bytes : List ℕ) → [] ≡ words_in 0 bytes
 unfolding words_in
 words-start bytes = refl
@@ -30,9 +31,6 @@ pub words-next : (bytes marks : List ℕ) (i : ℕ) → i < length marks → tak
     → take (suc i) (set marks i (word_at bytes (i * 4))) ≡ words_in (suc i) bytes
 unfolding words_in
 words-next bytes marks i h e = rw (take-suc-set marks i (word_at bytes (i * 4)) h, e)
-
-pub words-all : (bytes marks : List ℕ) (i : ℕ) → 32 ≤ i → i ≤ 32 → length marks ≡ 32 → take i marks ≡ words_in i bytes → marks ≡ words_in 32 bytes
-words-all bytes marks i l g h e = let k : i ≡ 32 = omega arith in sym (take_all i marks (omega arith)) ∙ e ∙ ap (λ (n : ℕ). words_in n bytes) k
 
 -- the same for writing
 pub bytes-start : [] ≡ mark_bytes []
@@ -44,12 +42,10 @@ unfolding mark_bytes
 bytes-snoc [] w = append-nil (word_bytes w)
 bytes-snoc (x ∷ ws) w = ap (λ (l : List ℕ). word_bytes x ++ l) (bytes-snoc ws w) ∙ sym (append_assoc (word_bytes x) (mark_bytes ws) (word_bytes w))
 
-pub bytes_next : (marks bytes : List ℕ) (i : ℕ) → i < length marks → i * 4 + 4 ≤ length bytes → take (i * 4) bytes ≡ mark_bytes (take i marks)
-    → take (suc i * 4) (sets bytes (i * 4) (word_bytes (get_or marks i 0))) ≡ mark_bytes (take (suc i) marks)
-bytes_next marks bytes i h k e = rw (sets-upto bytes (word_bytes (get_or marks i 0)) (i * 4) (suc i * 4) k (omega arith), e, take-suc marks i 0 h, bytes-snoc)
-
-pub bytes-all : (marks bytes : List ℕ) (i : ℕ) → length marks ≤ i → length bytes ≤ i * 4 → take (i * 4) bytes ≡ mark_bytes (take i marks) → bytes ≡ mark_bytes marks
-bytes-all marks bytes i h k e = sym (take_all (i * 4) bytes k) ∙ e ∙ ap mark_bytes (take_all i marks h)
+pub bytes_next : (marks bytes four : List ℕ) (i k : ℕ) → i < length marks → i * 4 + 4 ≤ length bytes → four ≡ word_bytes (get_or marks i 0) → take (i * 4) bytes ≡ mark_bytes (take i marks)
+    → take ((i + 1) * 4) (put_mid (i * 4) k bytes four) ≡ mark_bytes (take (i + 1) marks)
+bytes_next marks bytes four i k h l p e =
+    take-put_mid (i * 4) k bytes four ((i + 1) * 4) (rw p (omega arith)) (omega arith) ∙ rw (p, e, add-one, take-suc marks i 0 h, bytes-snoc)
 
 -- ---- the answer
 module _ (bytes marks out : List ℕ) (written : ℕ) where
@@ -63,12 +59,12 @@ module _ (bytes marks out : List ℕ) (written : ℕ) where
   tried a e p q = rw (eq-eqb (length marks) 128 e, ← p, ← q)
 
 module _ (r : Translated) (out : List ℕ) (written : ℕ) (marks : List ℕ) where
-  pub translated : {n : ℕ} {marks' : List ℕ} → r.outcome ≡ Written n → marks' ≡ mark_bytes r.cbuf_used
+  pub translated : {n : ℕ} {marks' : List ℕ} → r.outcome ≡ Ok n → marks' ≡ mark_bytes r.cbuf_used
       → returns 0 n marks' out ≡ handed_back (decision_of r out) written marks
   unfolding by_outcome
   translated o p = rw (o, p)
 
-  pub refused : {n : ℕ} {f : Refusal} → r.outcome ≡ Refused f → n ≡ T.refusal_number f → returns n written marks out ≡ handed_back (decision_of r out) written marks
+  pub refused : {n : ℕ} {f : Refusal} → r.outcome ≡ Err f → n ≡ T.refusal_number f → returns n written marks out ≡ handed_back (decision_of r out) written marks
   unfolding by_outcome
   refused o p = rw (o, p)
 

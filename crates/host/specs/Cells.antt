@@ -1,7 +1,7 @@
 -- Cells as the exported functions take them, 298 bytes, and what a reach answers there.
 use Rattle.std.specs.Prelude.{ℕ, cond, List, ◌++◌, map, length, eqb}
 use Rattle.reach.specs.declared.cells.Cells.{Cells}
-use Rattle.reach.specs.declared.cells.Outcome.TheVariants.{BadShape}
+use Rattle.reach.specs.declared.cells.Refusal.TheVariants.{BadShape}
 use Rattle.reach.specs.Reach as R
 use Rattle.truth_bytes.specs.Truths.{truth_byte, truths_at}
 
@@ -27,4 +27,4 @@ handed_back a bytes = returns a.number (cond (eqb a.number 0) (cell_bytes a.cell
 
 -- bytes of another length list no cells
 unfoldable pub reach_answer : List ℕ → List ℕ → Answer
-reach_answer run bytes = cond (eqb (length bytes) 298) (handed_back (R.reach_answer run (cells_in bytes)) bytes) (returns (R.number_of BadShape) bytes)
+reach_answer run bytes = cond (eqb (length bytes) 298) (handed_back (R.reach_answer run (cells_in bytes)) bytes) (returns (R.refusal_number BadShape) bytes)

@@ -1,8 +1,6 @@
 -- The use marks as the exported functions take them, 32 words in 128 bytes, and what the translation of a record answers there.
-use Rattle.std.specs.Prelude.{ℕ, zero, suc, ◌*◌, cond, List, [], ◌∷◌, ◌++◌, eqb, length}
+use Rattle.std.specs.Prelude.{ℕ, zero, suc, ◌*◌, cond, List, [], ◌∷◌, ◌++◌, eqb, length, Ok, Err}
 use Rattle.strip.specs.Entry.{word_at, word_bytes}
-use Rattle.translation.specs.declared.answer.Outcome.{Outcome}
-use Rattle.translation.specs.declared.answer.Outcome.TheVariants.{Written, Refused}
 use Rattle.translation.specs.Strip as T
 
 -- the first n words of a list of bytes, little-endian
@@ -26,9 +24,9 @@ abbrev pub returns : ℕ → ℕ → List ℕ → List ℕ → Answer
 returns number written marks out = record { number = number; written = written; marks = marks; out = out }
 
 -- a strip has its length and its marks; a refusal leaves both as they were
-unfoldable pub by_outcome : Outcome → List ℕ → List ℕ → ℕ → List ℕ → Answer
-by_outcome (Written n) used out written marks = returns 0 n (mark_bytes used) out
-by_outcome (Refused r) used out written marks = returns (T.refusal_number r) written marks out
+unfoldable pub by_outcome : T.Outcome → List ℕ → List ℕ → ℕ → List ℕ → Answer
+by_outcome (Ok n) used out written marks = returns 0 n (mark_bytes used) out
+by_outcome (Err r) used out written marks = returns (T.refusal_number r) written marks out
 
 -- from what the translation answers
 abbrev pub handed_back : T.Decision → ℕ → List ℕ → Answer

@@ -1,65 +1,33 @@
 // Translation, with the use marks in 128 bytes.
-ghost use Rattle.std.specs.Prelude.{◌≡◌, ◌+◌, ◌≤◌, ◌<◌, length};
-ghost use Rattle.std.proofs.lemmas.List.Edits.{sets};
-ghost use Rattle.strip.specs.Entry.{number_at, word_at, word_bytes};
+ghost use Rattle.std.specs.Prelude.{◌≡◌, ◌+◌, ◌≤◌, length};
+ghost use Rattle.strip.specs.Entry.{word_at};
 ghost use Rattle.host.specs.Marks.{words_in, mark_bytes, returns, translate_answer};
-
-use translation::Outcome;
-
-fn wide(b: u8) -> u32
-    ensures { (result ≡ b) × (result < 256) }
-{
-    b as u32
-}
-
-// Two bytes, little-endian.
-fn half_at(bytes: &[u8], at: usize) -> u32
-    requires { at + 2 ≤ length bytes.now }
-    ensures { (result ≡ number_at 2 bytes.now at) × (result < 65536) }
-{
-    wide(bytes[at]) + wide(bytes[at + 1]) * 256
-}
 
 // The word at a place of a list of bytes.
 fn word_at(bytes: &[u8], at: usize) -> u32
     requires { at + 4 ≤ length bytes.now }
     ensures { result ≡ word_at bytes.now at }
 {
-    half_at(bytes, at) + half_at(bytes, at + 2) * 65536
-}
-
-// A word to a place of a list of bytes.
-fn put_word(bytes: &mut [u8], at: usize, w: u32)
-    requires { at + 4 ≤ length bytes.old }
-    ensures { bytes.new ≡ sets bytes.old at (word_bytes w) }
-{
-    bytes[at] = (w % 256) as u8;
-    bytes[at + 1] = (w / 256 % 256) as u8;
-    bytes[at + 2] = (w / 65536 % 256) as u8;
-    bytes[at + 3] = (w / 16777216 % 256) as u8;
+    u32::from_le_bytes([bytes[at], bytes[at + 1], bytes[at + 2], bytes[at + 3]])
 }
 
 fn read_marks(bytes: &[u8]) -> [u32; 32]
     requires { length bytes.now ≡ 128 }
     ensures { result ≡ words_in 32 bytes.now }
 {
-    let mut marks = [0u32; 32];
-    let mut i = 0;
-    while i < 32 {
+    let mut marks = [0; 32];
+    for i in 0..32 {
         marks[i] = word_at(bytes, i * 4);
-        i += 1;
     }
     marks
 }
 
-fn write_marks(marks: &[u32], bytes: &mut [u8])
-    requires { (length marks.now ≡ 32) × (length bytes.old ≡ 128) }
+fn write_marks(marks: &[u32; 32], bytes: &mut [u8])
+    requires { length bytes.old ≡ 128 }
     ensures { bytes.new ≡ mark_bytes marks.now }
 {
-    let mut i = 0;
-    while i < 32 {
-        put_word(bytes, i * 4, marks[i]);
-        i += 1;
+    for (i, mark) in marks.iter().enumerate() {
+        bytes[i * 4..i * 4 + 4].copy_from_slice(&mark.to_le_bytes());
     }
 }
 
@@ -78,14 +46,12 @@ pub extern "C" fn mehkura_translate(
         return 1;
     }
     let r = translation::translate(bytes, read_marks(marks), out);
-    let o = r.outcome;
-    let used = r.cbuf_used;
-    match o {
-        Outcome::Written(n) => {
-            write_marks(&used, marks);
+    match r.outcome {
+        Ok(n) => {
+            write_marks(&r.cbuf_used, marks);
             *written = n;
             0
         }
-        Outcome::Refused(f) => translation::refusal_number(f),
+        Err(f) => u32::from(f),
     }
 }

@@ -8,8 +8,8 @@ use Prim.Native.Nat.{ℕ, ◌≤◌}
 use borrow.Author.Tests.{le-leb}
 use lib.Dec.{leb}
 use lib.ListN.{length, get_or, drop}
-use Rattle.translation.specs.declared.answer.Outcome.{Outcome}
-use Rattle.translation.specs.declared.answer.Outcome.TheVariants.{Written, Refused}
+use Rattle.std.specs.Prelude.{Ok, Err}
+use Rattle.translation.specs.Strip.{Outcome}
 use Rattle.translation.specs.declared.answer.Refusal.{Refusal}
 use Rattle.translation.specs.declared.answer.Refusal.TheVariants.{NoRoom}
 use Rattle.translation.specs.Strip.{Decision, strip, marked, insn_of, first_refusal, is_none, admits, refused, fitted, answered, decision, number_of, length_of, answer_of, translation}
@@ -18,7 +18,7 @@ use Rattle.translation.specs.Turn.{is_written}
 -- the record's strip at the front of the room, with its length and its marks
 abbrev translated : List ℕ → List ℕ → List ℕ → Decision
 translated l m out =
-    record { outcome = Written (length (strip (get_or l 0 0) (insn_of l))); marks = marked (get_or l 0 0) (insn_of l) m; out = strip (get_or l 0 0) (insn_of l) ++ drop (length (strip (get_or l 0 0) (insn_of l))) out }
+    record { outcome = Ok (length (strip (get_or l 0 0) (insn_of l))); marks = marked (get_or l 0 0) (insn_of l) m; out = strip (get_or l 0 0) (insn_of l) ++ drop (length (strip (get_or l 0 0) (insn_of l))) out }
 
 pub admitted-translated : (l m out : List ℕ) → admits l ≡ true → length (strip (get_or l 0 0) (insn_of l)) ≤ length out → decision l m out ≡ translated l m out
 unfolding decision fitted admits
@@ -28,12 +28,12 @@ admitted-translated l m out h w = go (first_refusal l) h
     go none x = rw (le-leb (length (strip (get_or l 0 0) (insn_of l))) (length out) w) refl
     go (some r) x = absurd (false≢true x)
 
-pub refused-untouched : (l m out : List ℕ) (f : Refusal) → (decision l m out).outcome ≡ Refused f → ((decision l m out).marks ≡ m) × ((decision l m out).out ≡ out)
+pub refused-untouched : (l m out : List ℕ) (f : Refusal) → (decision l m out).outcome ≡ Err f → ((decision l m out).marks ≡ m) × ((decision l m out).out ≡ out)
 unfolding decision fitted
 refused-untouched l m out f = go (first_refusal l)
   where
     Case : Decision → Type 0
-    Case r = r.outcome ≡ Refused f → (r.marks ≡ m) × (r.out ≡ out)
+    Case r = r.outcome ≡ Err f → (r.marks ≡ m) × (r.out ≡ out)
 
     if-fits : (b : Bool) → Case (cond b (translated l m out) (refused NoRoom m out))
     if-fits true = λ x. absurd (true≢false (ap is_written x))
@@ -55,5 +55,5 @@ unfolding translation number_of length_of
 refused-answered l m out h = go (decision l m out).outcome refl
   where
     go : (o : Outcome) → (decision l m out).outcome ≡ o → translation l m out ≡ record { number = (translation l m out).number; length = 0; marks = m; out = out }
-    go (Written n) e = absurd (h (ap number_of e))
-    go (Refused f) e = let u = refused-untouched l m out f e in rw (e, u.0, u.1)
+    go (Ok n) e = absurd (h (ap number_of e))
+    go (Err f) e = let u = refused-untouched l m out f e in rw (e, u.0, u.1)

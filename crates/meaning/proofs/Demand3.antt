@@ -14,8 +14,8 @@ use Rattle.evaluation.specs.Machine.{evaluated}
 use Rattle.reach.specs.declared.cells.Cells.{Cells}
 use Rattle.reach.specs.Reach.{reached}
 use Rattle.reach.proofs.Isolation.{Agree, Starts, isolation, stored_in, unchanged}
-use Rattle.translation.specs.declared.answer.Outcome.{Outcome}
-use Rattle.translation.specs.declared.answer.Outcome.TheVariants.{Written, Refused}
+use Rattle.std.specs.Prelude.{Ok, Err}
+use Rattle.translation.specs.Strip.{Outcome}
 use Rattle.translation.specs.declared.answer.Refusal.{Refusal}
 use Rattle.translation.specs.Strip.{strip, insn_of, admits, length_of}
 use Rattle.translation.proofs.Shape.{Accepted, accepted as accepted-is}
@@ -33,13 +33,13 @@ pub record Filled (gs : List RecordAndMarks) (r : Room) : Type 0 where
   pub bytes : (in_turn gs r).bytes ≡ take r.used r.bytes ++ (run_of (accepted gs r) ++ drop (in_turn gs r).used r.bytes)
 
 -- a refused record changes nothing
-turn-refused : (g : RecordAndMarks) (r : Room) (f : Refusal) → (turn_decision g r).outcome ≡ Refused f → turn g r ≡ r
+turn-refused : (g : RecordAndMarks) (r : Room) (f : Refusal) → (turn_decision g r).outcome ≡ Err f → turn g r ≡ r
 unfolding turn length_of
 turn-refused g r f e =
     let u : r.used + 0 ≡ r.used = omega arith in
     rw (e, (refused-untouched g.bytes g.marks (drop r.used r.bytes) f e).1, take-append-drop r.used r.bytes, u) refl
 
-module _ (g : RecordAndMarks) (r : Room) (h : r.used ≤ length r.bytes) (n : ℕ) (e : (turn_decision g r).outcome ≡ Written n) where
+module _ (g : RecordAndMarks) (r : Room) (h : r.used ≤ length r.bytes) (n : ℕ) (e : (turn_decision g r).outcome ≡ Ok n) where
   a : (admits g.bytes ≡ true) × Accepted g.bytes g.marks (drop r.used r.bytes) n (turn_decision g r)
   a = accepted-is g.bytes g.marks (drop r.used r.bytes) n e
 
@@ -101,7 +101,7 @@ module _ (g : RecordAndMarks) (r : Room) (h : r.used ≤ length r.bytes) (n : �
             ∙ ap (λ (x : List ℕ). take r.used r.bytes ++ x) (sym (append_assoc s (run_of ls) (drop ((turn g r).used + length (run_of ls)) r.bytes))));
       }
 
-filled-refused : (g : RecordAndMarks) (gs : List RecordAndMarks) (r : Room) (f : Refusal) → (turn_decision g r).outcome ≡ Refused f → Filled gs r → Filled (g ∷ gs) r
+filled-refused : (g : RecordAndMarks) (gs : List RecordAndMarks) (r : Room) (f : Refusal) → (turn_decision g r).outcome ≡ Err f → Filled gs r → Filled (g ∷ gs) r
 unfolding accepted in_turn
 filled-refused g gs r f e w =
     let q = turn-refused g r f e in
@@ -123,9 +123,9 @@ unfolding accepted in_turn run_of
 filled [] r h = record { admitted = tt; used = omega arith; fits = h; bytes = sym (take-append-drop r.used r.bytes) }
 filled (g ∷ gs) r h = go (turn_decision g r).outcome refl (filled gs r h) (λ n e. filled gs (turn g r) (turn-fits g r h n e))
   where
-    go : (o : Outcome) → (turn_decision g r).outcome ≡ o → Filled gs r → ((n : ℕ) → (turn_decision g r).outcome ≡ Written n → Filled gs (turn g r)) → Filled (g ∷ gs) r
-    go (Written n) e w ih = filled_more g r h n e gs (ih n e)
-    go (Refused f) e w ih = filled-refused g gs r f e w
+    go : (o : Outcome) → (turn_decision g r).outcome ≡ o → Filled gs r → ((n : ℕ) → (turn_decision g r).outcome ≡ Ok n → Filled gs (turn g r)) → Filled (g ∷ gs) r
+    go (Ok n) e w ih = filled_more g r h n e gs (ih n e)
+    go (Err f) e w ih = filled-refused g gs r f e w
 
 -- ---- demand 3
 

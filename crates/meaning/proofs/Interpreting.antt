@@ -1,4 +1,5 @@
 -- A record translated and its strip evaluated: the refusals are 01's, and the state is that of the meaning.
+use Rattle.evaluation.specs.Machine.{Outcome as EvaluationOutcome}
 use mathlib.Core.Path.{◌≡◌, refl, sym, ap, ◌∙◌}
 use mathlib.Core.Bool.{Bool, true, false, cond, not, ◌&&◌}
 use mathlib.Core.List.{List, [], ◌∷◌}
@@ -16,11 +17,9 @@ use Rattle.strip.specs.Entry.{wide}
 use Rattle.evaluation.specs.declared.state.State.{State}
 use Rattle.evaluation.specs.Machine.{refusal_told, told, returns, ends, answer_of as evaluation_answer, evaluation}
 use Rattle.evaluation.specs.declared.machine.Evaluated.{Evaluated}
-use Rattle.evaluation.specs.declared.machine.Outcome.{Outcome as EvaluationOutcome}
-use Rattle.evaluation.specs.declared.machine.Outcome.TheVariants.{Done, Refused as EvaluationRefused}
 use Rattle.translation.specs.declared.answer.Translated.{Translated}
-use Rattle.translation.specs.declared.answer.Outcome.{Outcome}
-use Rattle.translation.specs.declared.answer.Outcome.TheVariants.{Written, Refused}
+use Rattle.std.specs.Prelude.{Ok, Err}
+use Rattle.translation.specs.Strip.{Outcome}
 use Rattle.translation.specs.declared.answer.Refusal.{Refusal}
 use Rattle.translation.specs.declared.answer.Refusal.TheVariants.{BadLength, UnknownKind, UnknownForm, SystemValueMov, ByteThree, NoRoom}
 use Rattle.translation.specs.Insn as T
@@ -114,7 +113,7 @@ module _ (l : List ℕ) (s : State) (ks : List ℕ) where
   evaluated-with w h e = rw (← e, record-means ks l s w h) (go (unlent ks (record_of l) s))
     where
       go : (b : Bool)
-          → evaluation_answer (cond b (ends (EvaluationRefused (asked (record_of l))) s) (ends Done (meaning ks (record_of l) s)))
+          → evaluation_answer (cond b (ends (Err (asked (record_of l))) s) (ends (Ok tt) (meaning ks (record_of l) s)))
           ≡ cond b (returns 9 (named_word (record_of l)) s) (returns 0 [] (meaning ks (record_of l) s))
       go true = refl
       go false = refl
@@ -135,23 +134,23 @@ module _ (l m out out' : List ℕ) (t : Translated) (h : length out ≡ 256) (h'
   number-told : (o : Outcome) → t.outcome ≡ o → outcome_number o ≡ refusal l
   number-told o q = ap outcome_number (sym (outcome-is o q)) ∙ number_is l m out (omega (arith, h))
 
-  pub written-fits : (n : ℕ) → t.outcome ≡ Written n → n ≤ 256
-  written-fits n q = omega (arith, h, (accepted l m out n (outcome-is (Written n) q)).1.fits)
+  pub written-fits : (n : ℕ) → t.outcome ≡ Ok n → n ≤ 256
+  written-fits n q = omega (arith, h, (accepted l m out n (outcome-is (Ok n) q)).1.fits)
 
-  written-strip : (n : ℕ) → t.outcome ≡ Written n → take n out' ≡ strip_at l
-  written-strip n q = ap (λ (a : Decision). take n a.out) e ∙ accepted-strip l m out n (outcome-is (Written n) q)
+  written-strip : (n : ℕ) → t.outcome ≡ Ok n → take n out' ≡ strip_at l
+  written-strip n q = ap (λ (a : Decision). take n a.out) e ∙ accepted-strip l m out n (outcome-is (Ok n) q)
 
-  pub refused-interpreted : (s : State) (ks : List ℕ) (f : Refusal) → t.outcome ≡ Refused f → returns (refusal_number f) [] s ≡ interpretation l s ks
+  pub refused-interpreted : (s : State) (ks : List ℕ) (f : Refusal) → t.outcome ≡ Err f → returns (refusal_number f) [] s ≡ interpretation l s ks
   unfolding outcome_number
-  refused-interpreted s ks f q = refused-with l s ks f (number-told (Refused f) q)
+  refused-interpreted s ks f q = refused-with l s ks f (number-told (Err f) q)
 
   -- the run is the room's part from 0 to n
-  pub written-interpreted : (s : State) (ks : List ℕ) → Proper ks s → (n : ℕ) → t.outcome ≡ Written n
+  pub written-interpreted : (s : State) (ks : List ℕ) → Proper ks s → (n : ℕ) → t.outcome ≡ Ok n
       → evaluation wide (take (n - 0) out') s ks ≡ interpretation l s ks
   unfolding outcome_number
   written-interpreted s ks w n q =
       let z : n - 0 ≡ n = omega arith in
-      rw (z, written-strip n q) (evaluated-with l s ks w (accepted l m out n (outcome-is (Written n) q)).0 (number-told (Written n) q))
+      rw (z, written-strip n q) (evaluated-with l s ks w (accepted l m out n (outcome-is (Ok n) q)).0 (number-told (Ok n) q))
 
 -- ---- what the type of a state says: a register is a word
 

@@ -1,4 +1,6 @@
 -- Demand 2: every strip has its record's meaning (T6, T7), and a run of strips those of its records, one after another (T7b).
+use Rattle.std.specs.Prelude.{Err}
+use Rattle.evaluation.specs.Machine.{Outcome}
 use mathlib.Core.Path.{◌≡◌, refl, sym, ap, ◌∙◌, subst}
 use mathlib.Core.Bool.{Bool, true, false, cond, not, ◌&&◌, and-false}
 use mathlib.Core.List.{List, [], ◌∷◌, ◌++◌, map}
@@ -6,21 +8,19 @@ use mathlib.Core.Option.{some}
 use Prim.Native.Nat.{ℕ}
 use native.Mathlib.Omega.{arith}
 use lib.ListN.{get_or}
+use Rattle.std.specs.Prelude.{Ok}
 use Rattle.strip.specs.declared.reader.Entry.{Entry}
 use Rattle.strip.specs.Entry.{wide, Each, Formed}
 use Rattle.strip.specs.Shape.{all, ends_once, strip_ok, shape_ok, strip_bytes, run_bytes}
 use Rattle.strip.proofs.Tests.{and_left}
 use Rattle.strip.proofs.Run.{Strip, strips-run, strips-shape}
 use Rattle.evaluation.specs.declared.state.State.{State}
-use Rattle.evaluation.specs.declared.machine.Outcome.{Outcome}
-use Rattle.evaluation.specs.declared.machine.Outcome.TheVariants.{Done, Refused}
 use Rattle.evaluation.specs.declared.machine.Evaluated.{Evaluated}
 use Rattle.evaluation.specs.Machine.{is_done, begun, ends, onward, entries_from, strips_from, restored, evaluated, value_at}
 use Rattle.evaluation.proofs.Flat.{evaluated-strips}
 use Rattle.evaluation.proofs.Laws.{restored-twice}
 use Rattle.evaluation.proofs.Words.{Sized, undefined-sized}
 use Rattle.reach.specs.declared.cells.Cells.{Cells}
-use Rattle.reach.specs.declared.cells.Outcome.TheVariants.{Done as ReachDone}
 use Rattle.reach.specs.Reach.{reach_strips, reached}
 use Rattle.translation.specs.Insn as T
 use Rattle.translation.specs.Arms.{arm_of}
@@ -46,9 +46,9 @@ use Rattle.meaning.proofs.EveryArm.{arm-does, arm-missing}
 
 -- what evaluating a record's strip answers: 9 with the word that the record names where that is not lent, else its meaning
 unfoldable pub record_answer : List ℕ → Record → State → Evaluated
-record_answer ks i s = cond (unlent ks i s) (ends (Refused (asked i)) s) (ends Done (meaning ks i s))
+record_answer ks i s = cond (unlent ks i s) (ends (Err (asked i)) s) (ends (Ok tt) (meaning ks i s))
 
-final-answer : (s t : State) (r : Ran) → final r ≡ some t → strip_answer s r ≡ ends Done t
+final-answer : (s t : State) (r : Ran) → final r ≡ some t → strip_answer s r ≡ ends (Ok tt) t
 final-answer s t (ran u v) e = let q : u ≡ t = cc in rw q refl
 final-answer s t (halted r u) e = let z : ◌≡◌ {A = ℕ} 0 1 = cc in absurd (omega arith)
 
@@ -74,7 +74,7 @@ module _ (cs : List ℕ) (i : Record) (s : State) (w : Proper cs s) (hk : known 
   strip-means = strip-evaluated cs i.kind (insn i) s ∙ go (runs i s) (reads i && not (lent cs i)) refl refl
     where
       go : (b m : Bool) → runs i s ≡ b → reads i && not (lent cs i) ≡ m
-          → cond b (strip_answer s arm) (ends Done s) ≡ cond (b && m) (ends (Refused (asked i)) s) (ends Done (cond b (meant cs i s) s))
+          → cond b (strip_answer s arm) (ends (Ok tt) s) ≡ cond (b && m) (ends (Err (asked i)) s) (ends (Ok tt) (cond b (meant cs i s) s))
       go false m r e = refl
       go true true r e = rw (arm-missing cs i s hk (rw (runs-reads r) e)) refl
       go true false r e = final-answer s (meant cs i s) arm (arm-does cs i s w hk (runs-supported r) (rw (runs-reads r) e))
@@ -104,21 +104,21 @@ record-means cs l s w h = let a = admits-known l h in ap (λ (x : List ℕ). eva
 
 -- ---- a run
 
-answer-unlent : (cs : List ℕ) (i : Record) (s : State) → unlent cs i s ≡ true → record_answer cs i s ≡ ends (Refused (asked i)) s
+answer-unlent : (cs : List ℕ) (i : Record) (s : State) → unlent cs i s ≡ true → record_answer cs i s ≡ ends (Err (asked i)) s
 unfolding record_answer
 answer-unlent cs i s e = rw e refl
 
-answer-lent : (cs : List ℕ) (i : Record) (s : State) → unlent cs i s ≡ false → record_answer cs i s ≡ ends Done (meaning cs i s)
+answer-lent : (cs : List ℕ) (i : Record) (s : State) → unlent cs i s ≡ false → record_answer cs i s ≡ ends (Ok tt) (meaning cs i s)
 unfolding record_answer
 answer-lent cs i s e = rw e refl
 
 -- a strip's refusal returns the start of the run, not its own
-restored-on : (s : State) (r : Evaluated) (f : State → Evaluated) → restored s (onward r f) ≡ restored s (onward (restored s (onward r (λ t. ends Done t))) f)
+restored-on : (s : State) (r : Evaluated) (f : State → Evaluated) → restored s (onward r f) ≡ restored s (onward (restored s (onward r (λ t. ends (Ok tt) t))) f)
 restored-on s r f = go r.outcome refl
   where
-    go : (o : Outcome) → r.outcome ≡ o → restored s (cond (is_done o) (f r.state) r) ≡ restored s (onward (restored s (cond (is_done o) (ends Done r.state) r)) f)
-    go Done e = refl
-    go (Refused q) e = rw e refl
+    go : (o : Outcome) → r.outcome ≡ o → restored s (cond (is_done o) (f r.state) r) ≡ restored s (onward (restored s (cond (is_done o) (ends (Ok tt) r.state) r)) f)
+    go (Ok u) e = refl
+    go (Err q) e = rw e refl
 
 abbrev pub entries_at : List ℕ → List Entry
 entries_at l = entries_of (get_or l 0 0) (insn_of l)
@@ -148,18 +148,18 @@ strips-shaped ls = rw (strips-bytes ls) (strips-shape wide (map entries_at ls) (
 pub strips-from : (cs : List ℕ) (s : State) (ls : List (List ℕ)) → evaluated wide (run_of ls) s cs ≡ restored s (strips_from cs s (map entries_at ls))
 strips-from cs s ls = evaluated-strips s cs wide (run_of ls) (map entries_at ls) (rw (strips-bytes ls) (strips-run wide (map entries_at ls) (strips-ended ls))) (strips-shaped ls)
 
-pub strips-reached : (asked : Cells) (ls : List (List ℕ)) → reached (run_of ls) asked ≡ record { cells = reach_strips (map entries_at ls) asked; outcome = ReachDone }
+pub strips-reached : (asked : Cells) (ls : List (List ℕ)) → reached (run_of ls) asked ≡ record { cells = reach_strips (map entries_at ls) asked; outcome = Ok tt }
 unfolding reached
 strips-reached asked ls = rw (strips-shaped ls, strips-bytes ls, strips-run wide (map entries_at ls) (strips-ended ls)) refl
 
 -- one strip is a run of one
-one-strip : (cs : List ℕ) (s : State) (l : List ℕ) → restored s (onward (entries_from cs (begun s) (entries_at l)) (λ t. ends Done t)) ≡ evaluated wide (strip_at l) s cs
+one-strip : (cs : List ℕ) (s : State) (l : List ℕ) → restored s (onward (entries_from cs (begun s) (entries_at l)) (λ t. ends (Ok tt) t)) ≡ evaluated wide (strip_at l) s cs
 unfolding strips_from
 one-strip cs s l = sym (evaluated-strips s cs wide (strip_at l) (entries_at l ∷ []) (strip-decodes (get_or l 0 0) (insn_of l)) (strip-shape (get_or l 0 0) (insn_of l)))
 
 -- the answers of records, one after another: the first refusal ends them, and the state beside it is the one before that record
 unfoldable pub record_answers : List ℕ → List (List ℕ) → State → Evaluated
-record_answers ks [] s = ends Done s
+record_answers ks [] s = ends (Ok tt) s
 record_answers ks (l ∷ ls) s = onward (record_answer ks (record_of l) s) (λ t. record_answers ks ls t)
 
 module _ (cs : List ℕ) where
@@ -191,10 +191,10 @@ module _ (cs : List ℕ) where
   Lent l = reads (record_of l) && not (lent cs (record_of l)) ≡ false
 
   -- then the state after the run is that of the meanings
-  answers-lent : (ls : List (List ℕ)) (s : State) → Each Lent ls → record_answers cs ls s ≡ ends Done (meanings cs ls s)
+  answers-lent : (ls : List (List ℕ)) (s : State) → Each Lent ls → record_answers cs ls s ≡ ends (Ok tt) (meanings cs ls s)
   unfolding record_answers meanings unlent
   answers-lent [] s h = refl
   answers-lent (l ∷ ls) s h = rw (answer-lent cs (record_of l) s (rw h.0 (and-false (runs (record_of l) s)))) (answers-lent ls (meaning cs (record_of l) s) h.1)
 
-  pub run-means : (ls : List (List ℕ)) (s : State) → Proper cs s → Each (λ l. admits l ≡ true) ls → Each Lent ls → evaluated wide (run_of ls) s cs ≡ ends Done (meanings cs ls s)
+  pub run-means : (ls : List (List ℕ)) (s : State) → Proper cs s → Each (λ l. admits l ≡ true) ls → Each Lent ls → evaluated wide (run_of ls) s cs ≡ ends (Ok tt) (meanings cs ls s)
   run-means ls s w h r = run-answers ls s w h ∙ ap (restored s) (answers-lent ls s r)

@@ -22,7 +22,7 @@ use Rattle.translation.specs.Helpers.{r, set, logical_not_if, predicate, p, setp
 use Rattle.translation.specs.Arms.{mov, mov32i, sel, setp_both, set_truth, csetp, set_word, set_either, icompare, pcombine, prepared, iadd_words, iadd, iadd32i, iadd3_shift, iadd3_words, iadd3_fetch, iadd3, iscadd, xmad_shift, xmad_alter, xmad_merge, xmad_product, xmad_words, xmad_bc, xmad_fetch, xmad, minimum, maximum, imnmx, icmp_words, icmp_bc, icmp, lop_word, lop_test, lop_predicate, lop, lop32i, lop3_arm, shl, reverse_if, shr, use_field, field_at_b, bfe, bfi_words, bfi_bc, bfi, vmnmx_b, vmnmx_mixed, vmnmx_first, min_or_max, vmnmx_word, vmnmx_saturate, vmnmx_insert, vmnmx_merge, vmnmx_words, vmnmx, absolute, saturate_if, i2i, find_msb, flo_shift, flo, popc, note_unless, store_cell, r2p_turn, r2p_turns, r2p, load_cell, p2r_turn, p2r_turns, p2r, shf_amount, shf_select, shf_word, shf_words, shf, lea_b, lea_join, lea_word, lea, arm_of}
 use Rattle.translation.specs.Strip.{guard, guard_not, never_runs, block, guarded, entries_of, insn_of, decision}
 use Rattle.translation.specs.Turn.{strip_at}
-use Rattle.translation.specs.declared.answer.Outcome.TheVariants as Outcome
+use Rattle.std.specs.Prelude.{Ok}
 use Rattle.translation.proofs.Typed.{gives_value, gives_none, within, closed, length_last}
 use Rattle.translation.proofs.Arms.{arm-sized, guard-sized}
 use Rattle.translation.proofs.Shape.{strip-shape, strip-decodes, accepted-strip}
@@ -551,5 +551,5 @@ pub never-17 : (l : List ℕ) (bound : ℕ) (table : List ℕ) (room : ℕ) → 
 never-17 l bound table room h = false≢true (refused-10-or-11 l bound table room 17 h)
 
 -- the same of what an accepted translation leaves in its room
-pub translated-never-17 : (l m out : List ℕ) (n : ℕ) → (decision l m out).outcome ≡ Outcome.Written n → (bound : ℕ) (table : List ℕ) (room : ℕ) → written (take n (decision l m out).out) bound table room ≡ Refused 17 → ⊥
+pub translated-never-17 : (l m out : List ℕ) (n : ℕ) → (decision l m out).outcome ≡ Ok n → (bound : ℕ) (table : List ℕ) (room : ℕ) → written (take n (decision l m out).out) bound table room ≡ Refused 17 → ⊥
 translated-never-17 l m out n h bound table room e = never-17 l bound table room (rw (accepted-strip l m out n h) at e)

@@ -1,4 +1,5 @@
 -- The two works do what they must, from every state: by the meanings of their records, through the strips of these.
+use Rattle.std.specs.Prelude.{Ok}
 use mathlib.Core.Path.{◌≡◌, refl, sym, ap, ◌∙◌}
 use mathlib.Core.Logic.{◌≢◌}
 use mathlib.Core.Bool.{Bool, true, false, cond, ◌&&◌, xor}
@@ -11,7 +12,6 @@ use lib.Seq.{get_or-set_same, get_or-set_other}
 use borrow.Author.Tests.{leb-true, leb-false}
 use Rattle.strip.specs.Entry.{wide, Each}
 use Rattle.evaluation.specs.declared.state.State.{State}
-use Rattle.evaluation.specs.declared.machine.Outcome.TheVariants.{Done}
 use Rattle.evaluation.specs.declared.machine.Evaluated.{Evaluated}
 use Rattle.evaluation.specs.Machine.{onward, ends, evaluated}
 use Rattle.translation.specs.Insn as T
@@ -155,22 +155,22 @@ module _ (cs : List ℕ) (s : State) (w : Words cs s) where
     preds = next-preds;
   }
 
-  next-evaluated : evaluated wide (run_of count_records) s cs ≡ ends Done next
+  next-evaluated : evaluated wide (run_of count_records) s cs ≡ ends (Ok tt) next
   unfolding next low meanings
   next-evaluated =
       run-means cs count_records s w.proper count-admitted (count-reads cs)
-      ∙ ap (ends Done) (ap (meaning cs (record_of count_high)) (low-is cs s) ∙ high_is cs low)
+      ∙ ap (ends (Ok tt)) (ap (meaning cs (record_of count_high)) (low-is cs s) ∙ high_is cs low)
 
 one_more : (x y z n : ℕ) → y ≡ (x + n) % 2 ^ 64 → z ≡ (y + 1) % 2 ^ 64 → z ≡ (x + suc n) % 2 ^ 64
 one_more x y z n p q = omega arith
 
 -- a run evaluated n times, one time after another, up to the first refusal
 unfoldable pub repeated : List ℕ → List ℕ → ℕ → State → Evaluated
-repeated run cs zero s = ends Done s
+repeated run cs zero s = ends (Ok tt) s
 repeated run cs (suc n) s = onward (repeated run cs n s) (λ t. evaluated wide run t cs)
 
 record Counted (cs : List ℕ) (n : ℕ) (s : State) (e : Evaluated) : Type 0 where
-  pub done : e.outcome ≡ Done
+  pub done : e.outcome ≡ (Ok tt)
   pub words : Words cs e.state
   pub counts : Counts n s e.state
 
@@ -197,7 +197,7 @@ module _ (cs : List ℕ) (s : State) (w : Words cs s) where
 
 -- from every state, evaluating the work's run n times is never refused and adds n to the 64 bits
 pub count-counts : (cs : List ℕ) (s : State) → Proper cs s → length s.regs ≡ 255 → (n : ℕ)
-    → ((repeated (run_of count_records) cs n s).outcome ≡ Done) × Counts n s (repeated (run_of count_records) cs n s).state
+    → ((repeated (run_of count_records) cs n s).outcome ≡ (Ok tt)) × Counts n s (repeated (run_of count_records) cs n s).state
 count-counts cs s w l n = let b = counted-up cs s (record { proper = w; size = l }) n in (b.done, b.counts)
 
 -- ---- the conditions
@@ -278,12 +278,12 @@ module _ (cs : List ℕ) (s : State) (w : Proper cs s) (l : length s.regs ≡ 25
     preds = stored-preds total 2 _ refl ∙ sum-preds (reg s 1) s;
   }
 
-  end-evaluated : evaluated wide (run_of conditions_records) s cs ≡ ends Done end
+  end-evaluated : evaluated wide (run_of conditions_records) s cs ≡ ends (Ok tt) end
   unfolding end total meanings
   end-evaluated =
       run-means cs conditions_records s w conditions-admitted (conditions-reads cs)
-      ∙ ap (ends Done) (ap (meaning cs (record_of conditions_pack)) (sum_is cs s) ∙ packs-is cs total)
+      ∙ ap (ends (Ok tt)) (ap (meaning cs (record_of conditions_pack)) (sum_is cs s) ∙ packs-is cs total)
 
   -- from every state the work's run is not refused, its four bits are the sum's flags, and the number beside them survives
-  pub conditions-pack : ((evaluated wide (run_of conditions_records) s cs).outcome ≡ Done) × Packs s (evaluated wide (run_of conditions_records) s cs).state
+  pub conditions-pack : ((evaluated wide (run_of conditions_records) s cs).outcome ≡ (Ok tt)) × Packs s (evaluated wide (run_of conditions_records) s cs).state
   conditions-pack = rw end-evaluated (refl, end-packs)

@@ -2,44 +2,48 @@
 ghost use Rattle.std.specs.Prelude.{◌≡◌};
 ghost use Rattle.strip.specs.Entry.{wide};
 ghost use Rattle.evaluation.specs.Machine.{evaluation};
-ghost use Rattle.meaning.specs.Interpret.{told, answer_of, interpretation};
+ghost use Rattle.meaning.specs.Interpret.{refused_told, told, answer_of, interpretation};
 
-use evaluation::{Refusal, State};
+use evaluation::State;
 use strip::Layout;
 
-#[derive(Clone, Copy)]
-pub enum Outcome {
-    Done,
-    // 01's number of the record's refusal, 1 to 5.
-    Refused(u32),
-    // 9: the word that the record reads is not lent. Its slot, vec and comp.
-    NoConstant(u8, u32, u32),
+// Why a record is not interpreted. 01's numbers: 1 to 5 of the record, and 9 where the word that it reads is not lent.
+#[derive(Clone, Copy, Debug, PartialEq, Eq)]
+pub enum Refusal {
+    // The record is refused.
+    Record(translation::Refusal),
+    // Its strip is.
+    Run(evaluation::Refusal),
+}
+
+// 01's number of a refusal.
+impl From<Refusal> for u32 {
+    ghost from_gives = { λ r n. n ≡ (refused_told r).number };
+
+    #[tactic(auto, unfolding(crate::specs::Interpret::refused_told))]
+    fn from(r: Refusal) -> u32 {
+        match r {
+            Refusal::Record(r) => r.into(),
+            Refusal::Run(r) => r.into(),
+        }
+    }
 }
 
 // The state of the meaning, or the given one where the record is refused.
 #[derive(Clone, Copy)]
 pub struct Interpreted {
     pub state: State,
-    pub outcome: Outcome,
+    pub outcome: Result<(), Refusal>,
 }
 
 // 01's number, 0 where nothing is refused.
-pub fn outcome_number(o: Outcome) -> u32
+#[tactic(auto, unfolding(crate::specs::Interpret::told))]
+pub fn outcome_number(o: Result<(), Refusal>) -> u32
     ensures { result ≡ (told o).number }
 {
     match o {
-        Outcome::Done => 0,
-        Outcome::Refused(n) => n,
-        Outcome::NoConstant(_, _, _) => 9,
-    }
-}
-
-fn refused(state: State, number: u32) -> Interpreted
-    ensures { result ≡ record { state = state; outcome = Outcome.Refused number } }
-{
-    Interpreted {
-        state: state,
-        outcome: Outcome::Refused(number),
+        Ok(_) => 0,
+        Err(r) => r.into(),
     }
 }
 
@@ -48,20 +52,14 @@ fn evaluate(run: &[u8], state: State, constants: &[u32]) -> Interpreted
     ensures { answer_of result ≡ evaluation wide run.now state constants.now }
 {
     let e = evaluation::evaluate(run, Layout::Wide, state, constants);
-    let o = e.outcome;
-    let after = e.state;
-    match o {
-        evaluation::Outcome::Done => Interpreted {
-            state: after,
-            outcome: Outcome::Done,
+    match e.outcome {
+        Ok(_) => Interpreted {
+            state: e.state,
+            outcome: Ok(()),
         },
-        evaluation::Outcome::Refused(r) => match r {
-            Refusal::BadShape => refused(after, 7),
-            Refusal::UndefinedValue => refused(after, 8),
-            Refusal::NoConstant(slot, vec, comp) => Interpreted {
-                state: after,
-                outcome: Outcome::NoConstant(slot, vec, comp),
-            },
+        Err(r) => Interpreted {
+            state: e.state,
+            outcome: Err(Refusal::Run(r)),
         },
     }
 }
@@ -72,9 +70,11 @@ pub fn interpret(bytes: &[u8], state: State, constants: &[u32]) -> Interpreted
 {
     let mut room = [0u8; 256];
     let t = translation::translate(bytes, [0u32; 32], &mut room);
-    let o = t.outcome;
-    match o {
-        translation::Outcome::Written(n) => evaluate(&room[0..n], state, constants),
-        translation::Outcome::Refused(r) => refused(state, translation::refusal_number(r)),
+    match t.outcome {
+        Ok(n) => evaluate(&room[0..n], state, constants),
+        Err(r) => Interpreted {
+            state,
+            outcome: Err(Refusal::Record(r)),
+        },
     }
 }

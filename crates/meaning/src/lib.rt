@@ -3,4 +3,4 @@
 
 mod interpreter;
 
-pub use interpreter::{Interpreted, Outcome, interpret, outcome_number};
+pub use interpreter::{Interpreted, Refusal, interpret, outcome_number};

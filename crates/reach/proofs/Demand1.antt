@@ -9,8 +9,9 @@ use Rattle.strip.specs.Entry.{wide}
 use Rattle.strip.specs.declared.reader.Entry.{Entry}
 use Rattle.strip.specs.Shape.{decode, shape_ok}
 use Rattle.reach.specs.declared.cells.Cells.{Cells}
-use Rattle.reach.specs.declared.cells.Outcome.{Outcome}
-use Rattle.reach.specs.declared.cells.Outcome.TheVariants.{Done, BadShape}
+use Rattle.std.specs.Prelude.{Result, Ok, Err}
+use Rattle.reach.specs.declared.cells.Refusal.{Refusal}
+use Rattle.reach.specs.declared.cells.Refusal.TheVariants.{BadShape}
 use Rattle.reach.specs.declared.cells.Reached.{Reached}
 use Rattle.reach.specs.Reach.{reach_strips, reached, number_of, Answer, answer_of, reach_answer}
 
@@ -24,21 +25,21 @@ ill-formed-refused run c h = rw h
 
 -- ---- the number tells the case
 
-outcome_at : ℕ → Outcome
-outcome_at zero = Done
-outcome_at (suc n) = BadShape
+outcome_at : ℕ → Result (Unit {0}) Refusal
+outcome_at zero = Ok tt
+outcome_at (suc n) = Err BadShape
 
-outcome-back : (o : Outcome) → outcome_at (number_of o) ≡ o
+outcome-back : (o : Result (Unit {0}) Refusal) → outcome_at (number_of o) ≡ o
 unfolding outcome_at number_of
-outcome-back Done = refl
-outcome-back BadShape = refl
+outcome-back (Ok done) = refl
+outcome-back (Err BadShape) = refl
 
 back : Answer → Reached
 back a = record { cells = a.cells; outcome = outcome_at a.number }
 
 reached-back : (r : Reached) → back (answer_of r) ≡ r
 unfolding back
-reached-back r = ap {B = Reached} (λ (o : Outcome). record { cells = r.cells; outcome = o }) (outcome-back r.outcome)
+reached-back r = ap {B = Reached} (λ (o : Result (Unit {0}) Refusal). record { cells = r.cells; outcome = o }) (outcome-back r.outcome)
 
 -- as the callers of `reach` ask it
 pub reached-is : (r : Reached) (run : List ℕ) (c : Cells) → answer_of r ≡ reach_answer run c → r ≡ reached run c

@@ -1,5 +1,6 @@
 -- Isolation (01, 'Evaluation and reach'): starts that agree on the reach list agree at the end on the asked cells, and cells that no strip
 -- stores never change.
+use Rattle.std.specs.Prelude.{Ok, Err}
 use mathlib.Core.Path.{◌≡◌, refl, ap, ◌∙◌, sym}
 use mathlib.Core.List.{List, [], ◌∷◌}
 use mathlib.Core.Option.{Option, none, get_or}
@@ -16,7 +17,6 @@ use Rattle.strip.specs.Entry.{wide, kind_of}
 use Rattle.strip.specs.Shape.{all, is_open, ends_once, cell_ok, strip_ok, decode, all_ok, shape_ok}
 use Rattle.strip.proofs.Tests.{and_left, and_right}
 use Rattle.evaluation.specs.declared.state.State.{State}
-use Rattle.evaluation.specs.declared.machine.Outcome.TheVariants.{Done, Refused}
 use Rattle.evaluation.specs.declared.machine.Refusal.TheVariants.{BadShape}
 use Rattle.evaluation.specs.declared.machine.Evaluated.{Evaluated}
 use Rattle.evaluation.specs.State.{loaded, stored_reg, stored_pred, stored_flag}
@@ -256,7 +256,7 @@ pub record Accepted (run : List ℕ) (s : State) (cs : List ℕ) : Type 0 where
   pub done : is_done (strips_from cs s (strips run)).outcome ≡ true
   pub end : evaluated wide run s cs ≡ strips_from cs s (strips run)
 
-pub accepted : (run : List ℕ) (s : State) (cs : List ℕ) → (evaluated wide run s cs).outcome ≡ Done → Accepted run s cs
+pub accepted : (run : List ℕ) (s : State) (cs : List ℕ) → (evaluated wide run s cs).outcome ≡ (Ok tt) → Accepted run s cs
 unfolding evaluated
 accepted run s cs p = go (shape_ok wide run) refl (is_done (strips_from cs s (strips run)).outcome) refl (ap is_done p)
   where
@@ -264,7 +264,7 @@ accepted run s cs p = go (shape_ok wide run) refl (is_done (strips_from cs s (st
     r = strips_from cs s (strips run)
 
     go : (a : Bool) → shape_ok wide run ≡ a → (b : Bool) → is_done r.outcome ≡ b
-        → is_done (cond a (cond b r (ends r.outcome s)) (ends (Refused BadShape) s)).outcome ≡ true → Accepted run s cs
+        → is_done (cond a (cond b r (ends r.outcome s)) (ends (Err BadShape) s)).outcome ≡ true → Accepted run s cs
     go true a true b q = record { shape = a; done = b; end = rw (a, b) refl }
     go true a false b q = absurd (false≢true (sym b ∙ q))
     go false a b r q = absurd (false≢true q)
@@ -273,8 +273,8 @@ accepted run s cs p = go (shape_ok wide run) refl (is_done (strips_from cs s (st
 pub record Starts (run : List ℕ) (list : Cells) (s : State) (cs : List ℕ) (t : State) (ds : List ℕ) : Type 0 where
   pub sizes : Sizes s t
   pub agree : Agree list s cs t ds
-  pub one : (evaluated wide run s cs).outcome ≡ Done
-  pub two : (evaluated wide run t ds).outcome ≡ Done
+  pub one : (evaluated wide run s cs).outcome ≡ (Ok tt)
+  pub two : (evaluated wide run t ds).outcome ≡ (Ok tt)
 
 -- Starts that agree on the list of the rule have ends that agree on the asked cells. Nothing else is asked of the run: one that is done
 -- passed the shape test. Of the asked cells' lists only the slots' length matters, since no state has a register past the last.

@@ -2,6 +2,7 @@ pub mod Truths
 pub mod CellSets
 pub mod Isolation
 pub mod Bits
+pub mod NewRow
 pub mod Lists
 pub mod Scan
 pub mod TableReach

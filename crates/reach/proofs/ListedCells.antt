@@ -2,7 +2,7 @@
 use mathlib.Core.Path.{◌≡◌, refl, ap, ◌∙◌, sym}
 use mathlib.Core.List.{List, []}
 use mathlib.Core.Option
-use mathlib.Core.Bool.{Bool, true, false, cond, not, ◌&&◌, ◌||◌}
+use mathlib.Core.Bool.{Bool, true, false, cond, not, ◌&&◌, ◌||◌, false≢true}
 use Prim.Native.Nat.{ℕ, ◌+◌, ◌-◌, ◌≤◌, ◌<◌}
 use native.Mathlib.Omega.{arith}
 use lib.Dec.{eqb}
@@ -11,7 +11,9 @@ use borrow.Author.Tests.{lt-ltb, le-ltb}
 use Rattle.strip.specs.Entry.{wide}
 use Rattle.strip.specs.Shape.{decode, shape_ok}
 use Rattle.reach.specs.declared.cells.Cells.{Cells}
-use Rattle.reach.specs.declared.cells.Outcome.TheVariants.{Done, BadShape}
+use Rattle.std.specs.Prelude.{Result, Ok, Err, is_ok}
+use Rattle.reach.specs.declared.cells.Refusal.{Refusal}
+use Rattle.reach.specs.declared.cells.Refusal.TheVariants.{BadShape}
 use Rattle.reach.specs.declared.cells.Reached.{Reached}
 use Rattle.reach.specs.Reach.{listed, table, reach_strips, reached}
 use Rattle.reach.specs.Rows.{Sized, Whole, Holds, listed_no, in_row, join_row, lists, any_below, in_table, gathered, make_cells, collected, listed_at, listed_cells}
@@ -155,14 +157,24 @@ unfolding listed_cells
 listed_by t c w p₁ p₂ p₃ p₄ = rw (p₁, p₂, p₃, p₄, w.regs, w.preds, w.flags, w.slots)
 
 -- ---- the whole
+
+-- there is one refusal
+pub outcome-ok : (o : Result (Unit {0}) Refusal) → is_ok o ≡ true → o ≡ Ok tt
+outcome-ok (Ok done) p = refl
+outcome-ok (Err r) p = absurd (false≢true p)
+
+pub outcome-err : (o : Result (Unit {0}) Refusal) → is_ok o ≡ false → o ≡ Err BadShape
+outcome-err (Ok done) p = absurd (false≢true (sym p))
+outcome-err (Err BadShape) p = refl
+
 module _ (run : List ℕ) (c : Cells) where
-  pub refused : shape_ok wide run ≡ false → record { cells = c; outcome = BadShape } ≡ reached run c
+  pub refused : shape_ok wide run ≡ false → record { cells = c; outcome = Err BadShape } ≡ reached run c
   unfolding reached
   refused p = rw p
 
-  pub answered : Whole c → shape_ok wide run ≡ true → (t : List ℕ) → Holds t run → record { cells = listed_cells (collected t c) c; outcome = Done } ≡ reached run c
+  pub answered : Whole c → shape_ok wide run ≡ true → (t : List ℕ) → Holds t run → record { cells = listed_cells (collected t c) c; outcome = Ok tt } ≡ reached run c
   unfolding reached
   answered w p t h =
       let ss = Option.get_or (decode wide run) [] in
       rw p
-      (ap {B = Reached} (λ (z : Cells). record { cells = z; outcome = Done }) (listed-cells-are (collected t c) c (reach_strips ss c) (reach-whole ss c w) (λ d l. answer-bit t c h.sized d l ∙ h.reach c w d l)))
+      (ap {B = Reached} (λ (z : Cells). record { cells = z; outcome = Ok tt }) (listed-cells-are (collected t c) c (reach_strips ss c) (reach-whole ss c w) (λ d l. answer-bit t c h.sized d l ∙ h.reach c w d l)))

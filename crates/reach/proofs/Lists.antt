@@ -1,12 +1,12 @@
 -- What a cell lists, by the table: its row, or itself where it has none. What a load and a store make of that.
-use mathlib.Core.Path.{◌≡◌, refl, ap, ◌∙◌, sym}
+use mathlib.Core.Path.{◌≡◌, refl, ap, ap₂, ◌∙◌, sym}
 use mathlib.Core.List.{List, [], ◌∷◌, ◌++◌}
 use mathlib.Core.Bool.{Bool, true, false, cond, ◌&&◌, ◌||◌, and-false, or-true, or-false, or_assoc}
 use Prim.Native.Nat.{ℕ, zero, suc, ◌≤◌, ◌<◌}
 use native.Mathlib.Omega.{arith}
 use lib.Dec.{eqb, ltb}
 use lib.ListN.{length, get_or, take}
-use lib.Seq.{take-suc}
+use lib.Seq.{take-suc, length-take-le, get_or-take}
 use borrow.Author.Tests.{eqb-true, eqb-false, eq-eqb, ne_eqb, lt-ltb, le-ltb, ltb-true, ltb-false}
 use Rattle.reach.specs.Reach.{any}
 use Rattle.reach.specs.Rows.{Sized, in_row, join_row, copy_row, wipe_row, add_cell, lists, owned, rows_loaded, rows_stored, rows_stored_all}
@@ -102,6 +102,15 @@ pub stored-all-sized : (o : Bool) (t cs : List ℕ) (m : ℕ) → Sized t → Si
 unfolding rows_stored_all
 stored-all-sized o t cs zero h = h
 stored-all-sized o t cs (suc m) h = stored-sized o (rows_stored_all o t cs m) (get_or cs m 0) (stored-all-sized o t cs m h)
+
+-- of the first n cells alone
+pub stored-all-front : (o : Bool) (t cs : List ℕ) (n : ℕ) → n ≤ length cs → rows_stored_all o t (take n cs) (length (take n cs)) ≡ rows_stored_all o t cs n
+unfolding rows_stored_all
+stored-all-front o t cs n h = ap (rows_stored_all o t (take n cs)) (length-take-le n cs h) ∙ go n (omega arith)
+  where
+    go : (m : ℕ) → m ≤ n → rows_stored_all o t (take n cs) m ≡ rows_stored_all o t cs m
+    go zero k = refl
+    go (suc m) k = ap₂ (rows_stored o) (go m (omega arith)) (get_or-take n cs m 0 k)
 
 pub any_snoc : {A : Type 0} (f : A → Bool) (l : List A) (a : A) → any f (l ++ (a ∷ [])) ≡ any f l || f a
 any_snoc f [] a = or-false (f a)

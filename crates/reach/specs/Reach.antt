@@ -1,14 +1,14 @@
 -- Reach (01, 'Evaluation and reach'): which cells at the start of a run can matter to the asked cells at its end. From the last strip back: a
 -- strip that stores none of the list leaves it; otherwise its stored cells go out, unless it holds an open, and then all that it loads comes in.
-use Rattle.std.specs.Prelude.{Bool, false, cond, not, ◌&&◌, ◌||◌, List, [], ◌∷◌, ◌++◌, ℕ, zero, suc, eqb, get_or}
+use Rattle.std.specs.Prelude.{Bool, false, cond, not, ◌&&◌, ◌||◌, List, [], ◌∷◌, ◌++◌, ℕ, zero, suc, eqb, get_or, Result, Ok, Err}
 use Rattle.std.proofs.Math.Option
 use Rattle.strip.specs.Entry.{wide}
 use Rattle.strip.specs.declared.reader.Entry.{Entry}
 use Rattle.strip.specs.Shape.{is_open, decode, shape_ok}
 use Rattle.evaluation.specs.Cells.{store_kind, stores, loads}
 use Rattle.reach.specs.declared.cells.Cells.{Cells}
-use Rattle.reach.specs.declared.cells.Outcome.{Outcome}
-use Rattle.reach.specs.declared.cells.Outcome.TheVariants.{Done, BadShape}
+use Rattle.reach.specs.declared.cells.Refusal.{Refusal}
+use Rattle.reach.specs.declared.cells.Refusal.TheVariants.{BadShape}
 use Rattle.reach.specs.declared.cells.Reached.{Reached}
 
 -- ---- sets of cells: a cell is the kind of its load (4 register, 5 predicate, 6 flag, 10 slot) and a number
@@ -61,13 +61,16 @@ reach_strips (es ∷ ss) c = rule es (reach_strips ss c)
 -- a run that is not well-formed is refused, with the asked cells
 unfoldable pub reached : List ℕ → Cells → Reached
 reached run c =
-    cond (shape_ok wide run) (record { cells = reach_strips (Option.get_or (decode wide run) []) c; outcome = Done }) (record { cells = c; outcome = BadShape })
+    cond (shape_ok wide run) (record { cells = reach_strips (Option.get_or (decode wide run) []) c; outcome = Ok tt }) (record { cells = c; outcome = Err BadShape })
 
 -- ---- the answer: 01's number, and the cells
 
-unfoldable pub number_of : Outcome → ℕ
-number_of Done = 0
-number_of BadShape = 7
+abbrev pub refusal_number : Refusal → ℕ
+refusal_number BadShape = 7
+
+unfoldable pub number_of : Result (Unit {0}) Refusal → ℕ
+number_of (Ok done) = 0
+number_of (Err r) = refusal_number r
 
 pub record Answer : Type 0 where
   pub number : ℕ

@@ -1,7 +1,7 @@
 -- The table by which the code finds a reach in one pass forwards: row c holds the cells that the strips so far list where c alone is asked, row
 -- 298 collects, and row 299 says which cells have a row: any other lists itself. That this is `reach_strips` is proved (proofs/TableReach.antt), so a
 -- reader need not believe this page.
-use Rattle.std.specs.Prelude.{ℕ, zero, suc, ◌+◌, ◌*◌, ◌-◌, ◌/◌, ◌%◌, ◌^◌, ◌<◌, ◌≡◌, List, [], Bool, true, false, cond, ◌&&◌, ◌||◌, ltb, eqb, length, get_or, set}
+use Rattle.std.specs.Prelude.{ℕ, zero, suc, ◌+◌, ◌*◌, ◌-◌, ◌/◌, ◌%◌, ◌^◌, ◌<◌, ◌≡◌, List, [], ◌∷◌, Bool, true, false, cond, ◌&&◌, ◌||◌, ltb, eqb, length, get_or, set}
 use Rattle.std.proofs.Math.Option
 use Rattle.std.specs.Int.Bits.{bit_or}
 use Rattle.strip.specs.Entry.{wide}
@@ -47,6 +47,13 @@ in_row t r d = eqb (get_or t (r * 5 + d / 64) 0 / 2 ^ (d % 64) % 2) 1
 unfoldable pub set_row : List ℕ → ℕ → (a b c d e : ℕ) → List ℕ
 set_row t r a b c d e = set (set (set (set (set t (r * 5) a) (r * 5 + 1) b) (r * 5 + 2) c) (r * 5 + 3) d) (r * 5 + 4) e
 
+-- the words of row r, and row r replaced by such words
+abbrev pub row_words : List ℕ → ℕ → List ℕ
+row_words t r = get_or t (r * 5) 0 ∷ get_or t (r * 5 + 1) 0 ∷ get_or t (r * 5 + 2) 0 ∷ get_or t (r * 5 + 3) 0 ∷ get_or t (r * 5 + 4) 0 ∷ []
+
+abbrev pub put_row : List ℕ → ℕ → List ℕ → List ℕ
+put_row t r row = set_row t r (get_or row 0 0) (get_or row 1 0) (get_or row 2 0) (get_or row 3 0) (get_or row 4 0)
+
 abbrev pub word_or : List ℕ → ℕ → ℕ → ℕ
 word_or t i j = bit_or (get_or t i 0) (get_or t j 0)
 
@@ -88,48 +95,40 @@ unfoldable pub rows_stored_all : Bool → List ℕ → List ℕ → ℕ → List
 rows_stored_all o t cs zero = t
 rows_stored_all o t cs (suc m) = rows_stored o (rows_stored_all o t cs m) (get_or cs m 0)
 
-abbrev pub empty_summary : StripSummary
-empty_summary = record { count = 0; block = false }
+-- a strip begins; a strip stores a cell
+abbrev pub empty_summary : List ℕ → StripSummary
+empty_summary cs = record { stored = cs; count = 0; block = false }
 
-unfoldable pub rows_after : List ℕ → List ℕ → StripSummary → Entry → List ℕ
-rows_after t cs s (Entry.Bare k) = cond (eqb k 255) (wipe_row (rows_stored_all s.block t cs s.count) 298) t
-rows_after t cs s (Entry.Word w) = t
-rows_after t cs s (Entry.Cell k n) = rows_loaded t (load_place k n)
-rows_after t cs s (Entry.Store k n r) = t
-rows_after t cs s (Entry.One k a) = t
-rows_after t cs s (Entry.Two k a b) = t
-rows_after t cs s (Entry.Three k a b c) = t
-rows_after t cs s (Entry.Four k a b c d) = t
+abbrev pub with_stored : StripSummary → ℕ → StripSummary
+with_stored s c = record { stored = set s.stored s.count c; count = s.count + 1; block = s.block }
 
-unfoldable pub stored_cells_after : List ℕ → StripSummary → Entry → List ℕ
-stored_cells_after cs s (Entry.Bare k) = cs
-stored_cells_after cs s (Entry.Word w) = cs
-stored_cells_after cs s (Entry.Cell k n) = cs
-stored_cells_after cs s (Entry.Store k n r) = set cs s.count (store_place k n)
-stored_cells_after cs s (Entry.One k a) = cs
-stored_cells_after cs s (Entry.Two k a b) = cs
-stored_cells_after cs s (Entry.Three k a b c) = cs
-stored_cells_after cs s (Entry.Four k a b c d) = cs
+-- at the end of a strip
+unfoldable pub rows_ended : List ℕ → StripSummary → List ℕ
+rows_ended t s = wipe_row (rows_stored_all s.block t s.stored s.count) 298
+
+unfoldable pub rows_after : List ℕ → StripSummary → Entry → List ℕ
+rows_after t s (Entry.Bare k) = cond (eqb k 255) (rows_ended t s) t
+rows_after t s (Entry.Word w) = t
+rows_after t s (Entry.Cell k n) = rows_loaded t (load_place k n)
+rows_after t s (Entry.Store k n r) = t
+rows_after t s (Entry.One k a) = t
+rows_after t s (Entry.Two k a b) = t
+rows_after t s (Entry.Three k a b c) = t
+rows_after t s (Entry.Four k a b c d) = t
 
 unfoldable pub summary_after : StripSummary → Entry → StripSummary
-summary_after s (Entry.Bare k) = cond (eqb k 255) empty_summary s
+summary_after s (Entry.Bare k) = cond (eqb k 255) (empty_summary s.stored) s
 summary_after s (Entry.Word w) = s
 summary_after s (Entry.Cell k n) = s
-summary_after s (Entry.Store k n r) = record { count = s.count + 1; block = s.block }
-summary_after s (Entry.One k a) = record { count = s.count; block = s.block || eqb k 100 }
+summary_after s (Entry.Store k n r) = with_stored s (store_place k n)
+summary_after s (Entry.One k a) = record { stored = s.stored; count = s.count; block = s.block || eqb k 100 }
 summary_after s (Entry.Two k a b) = s
 summary_after s (Entry.Three k a b c) = s
 summary_after s (Entry.Four k a b c d) = s
 
--- the arrays have their lengths
-pub record Lengths (t cs : List ℕ) : Type 0 where
-  pub sized : Sized t
-  pub room : length cs ≡ 64
-
--- what an entry makes of the arrays and of the strip's summary
-pub record RowSteps (t cs : List ℕ) (s : StripSummary) (e : Entry) (t' cs' : List ℕ) (s' : StripSummary) : Type 0 where
-  pub rows : t' ≡ rows_after t cs s e
-  pub stored_cells : cs' ≡ stored_cells_after cs s e
+-- what an entry makes of the table and of the strip's summary
+pub record RowSteps (t : List ℕ) (s : StripSummary) (e : Entry) (t' : List ℕ) (s' : StripSummary) : Type 0 where
+  pub rows : t' ≡ rows_after t s e
   pub summary : s' ≡ summary_after s e
 
 -- ---- a run

@@ -1,4 +1,6 @@
 // Cells, and what a reach hands back.
+ghost use Rattle.std.specs.Prelude.{◌≡◌};
+ghost use Rattle.reach.specs.Reach.{refusal_number};
 
 // Which registers, predicates, flags and constant slots are listed.
 #[derive(Clone, Copy)]
@@ -9,16 +11,27 @@ pub struct Cells {
     pub slots: [bool; 32],
 }
 
-#[derive(Clone, Copy)]
-pub enum Outcome {
-    Done,
-    // The run is not well-formed: 01's refusal 7.
+// Why a run is refused.
+#[derive(Clone, Copy, Debug, PartialEq, Eq)]
+pub enum Refusal {
+    // The run is not well-formed.
     BadShape,
+}
+
+// 01's number of a refusal.
+impl From<Refusal> for u32 {
+    ghost from_gives = { λ r n. n ≡ refusal_number r };
+
+    fn from(r: Refusal) -> u32 {
+        match r {
+            Refusal::BadShape => 7,
+        }
+    }
 }
 
 // The cells that the rule lists, or the asked ones where the run is refused.
 #[derive(Clone, Copy)]
 pub struct Reached {
     pub cells: Cells,
-    pub outcome: Outcome,
+    pub outcome: Result<(), Refusal>,
 }

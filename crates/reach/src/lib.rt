@@ -5,5 +5,5 @@ mod cells;
 mod rows;
 mod walk;
 
-pub use cells::{Cells, Outcome, Reached};
+pub use cells::{Cells, Reached, Refusal};
 pub use walk::reach;

@@ -4,266 +4,173 @@
 // length, a byte of the room or a mark; the last line has the counts.
 #![tactic(auto)]
 
-ghost use Rattle.std.specs.Prelude.{◌≡◌, length};
+ghost use Rattle.std.specs.Prelude.{◌≤◌, length};
+ghost use Rattle.replay.specs.Got.{IsWithin};
 
 use ascii::read_full;
 use std::io;
 use std::io::Read;
-use translation::Outcome;
+use translation::Refusal;
 
-// What was replayed so far, and whether the input goes on.
+// What was replayed so far.
 #[derive(Clone, Copy)]
 struct Tally {
     accepted: u64,
     refused: u64,
     differences: u64,
-    going: bool,
+}
+
+impl Tally {
+    fn new() -> Tally {
+        Tally {
+            accepted: 0,
+            refused: 0,
+            differences: 0,
+        }
+    }
+
+    fn replayed(&self) -> u64 {
+        self.accepted.wrapping_add(self.refused)
+    }
+
+    fn count(&mut self, accepted: bool, same: bool) {
+        self.accepted = self.accepted.wrapping_add(u64::from(accepted));
+        self.refused = self.refused.wrapping_add(u64::from(!accepted));
+        self.differences = self.differences.wrapping_add(u64::from(!same));
+    }
 }
 
 // What a record has to give.
 #[derive(Clone, Copy)]
 struct Expected {
     number: u32,
-    slot: usize,
-    mark: u32,
+    marks: [u32; 32],
 }
 
-// What the room holds before, so that a byte that is written or moved is seen.
-fn pattern(i: usize) -> u8 {
-    (i % 251) as u8
-}
-
-fn fill(room: &mut [u8]) {
-    for (i, byte) in room.iter_mut().enumerate() {
-        *byte = pattern(i);
+fn expectation(head: &[u8; 26]) -> Expected {
+    let mut marks = [0; 32];
+    let slot = usize::from(head[18]);
+    if slot < 32 {
+        marks[slot] = u32::from_le_bytes([head[19], head[20], head[21], head[22]]);
     }
-}
-
-// The byte that has to stand at a place: the strip's, or after it the pattern's.
-fn expected_byte(strip: &[u8], i: usize) -> u8 {
-    if i < strip.len() {
-        strip[i]
-    } else {
-        pattern(i)
-    }
-}
-
-fn room_holds(room: &[u8], strip: &[u8]) -> bool {
-    for (i, byte) in room.iter().enumerate() {
-        if *byte != expected_byte(strip, i) {
-            return false;
-        }
-    }
-    true
-}
-
-fn expected_mark(e: Expected, slot: usize) -> u32 {
-    if slot == e.slot { e.mark } else { 0 }
-}
-
-fn marks_are(marks: [u32; 32], e: Expected) -> bool {
-    for slot in 0..32usize {
-        if marks[slot] != expected_mark(e, slot) {
-            return false;
-        }
-    }
-    true
-}
-
-// The refusal's number, 0 where there is none.
-fn number_of(o: Outcome) -> u32 {
-    match o {
-        Outcome::Written(n) => 0,
-        Outcome::Refused(r) => translation::refusal_number(r),
-    }
-}
-
-fn length_of(o: Outcome) -> usize {
-    match o {
-        Outcome::Written(n) => n,
-        Outcome::Refused(r) => 0,
-    }
-}
-
-fn both(a: bool, b: bool) -> bool {
-    if a { b } else { false }
-}
-
-// Whether a translation into this room gives what is expected.
-fn agrees(record: &[u8], e: Expected, strip: &[u8], room: &mut [u8]) -> bool {
-    fill(room);
-    let t = translation::translate(record, [0; 32], room);
-    let o = t.outcome;
-    let marks = t.cbuf_used;
-    let same = both(number_of(o) == e.number, length_of(o) == strip.len());
-    both(same, both(room_holds(room, strip), marks_are(marks, e)))
-}
-
-fn refused(number: u32) -> Expected {
     Expected {
-        number: number,
-        slot: 255,
-        mark: 0,
+        number: u32::from(head[23]),
+        marks,
     }
+}
+
+// What a room holds before, so that a byte that is written or moved is seen.
+fn pattern() -> [u8; 300] {
+    let mut room = [0; 300];
+    for (i, byte) in room.iter_mut().enumerate() {
+        *byte = (i % 251) as u8;
+    }
+    room
+}
+
+// The refusal's number, 0 where there is none, and the strip's length.
+fn told(o: Result<usize, Refusal>) -> (u32, usize) {
+    match o {
+        Ok(n) => (0, n),
+        Err(r) => (u32::from(r), 0),
+    }
+}
+
+// Whether a translation into a room of this size gives what is expected.
+fn agrees(record: &[u8], e: Expected, strip: &[u8], size: usize) -> bool
+    requires { (size ≤ 300) × (length strip.now ≤ 300) }
+{
+    let mut room = pattern();
+    let mut expected = pattern();
+    expected[..strip.len()].copy_from_slice(strip);
+    let t = translation::translate(record, [0; 32], &mut room[..size]);
+    told(t.outcome) == (e.number, strip.len())
+        && room[..size] == expected[..size]
+        && t.cbuf_used == e.marks
 }
 
 // An accepted record: also with a room that is just long enough, and refused 6 with one byte less.
-fn accepted_agrees(record: &[u8], e: Expected, strip: &[u8], room: &mut [u8]) -> bool {
+fn accepted_agrees(record: &[u8], e: Expected, strip: &[u8]) -> bool
+    requires { length strip.now ≤ 256 }
+{
     let n = strip.len();
-    if n == 0 {
-        return false;
-    }
-    if room.len() < n {
-        return false;
-    }
-    let last = n - 1;
-    let whole = agrees(record, e, strip, room);
-    let just = agrees(record, e, strip, &mut room[0..n]);
-    let short = agrees(record, refused(6), &strip[0..0], &mut room[0..last]);
-    both(whole, both(just, short))
+    let no_room = Expected {
+        number: 6,
+        marks: [0; 32],
+    };
+    n > 0
+        && agrees(record, e, strip, 300)
+        && agrees(record, e, strip, n)
+        && agrees(record, no_room, b"", n - 1)
 }
 
 // A refused one: also with no room at all, since 6 comes last.
-fn refused_agrees(record: &[u8], e: Expected, strip: &[u8], room: &mut [u8]) -> bool {
-    let whole = agrees(record, e, strip, room);
-    let none = agrees(record, e, strip, &mut room[0..0]);
-    both(whole, none)
-}
-
-fn record_agrees(record: &[u8], e: Expected, strip: &[u8]) -> bool {
-    let mut room = [0u8; 300];
-    if e.number == 0 {
-        accepted_agrees(record, e, strip, &mut room)
-    } else {
-        refused_agrees(record, e, strip, &mut room)
-    }
-}
-
-fn say(what: &str, n: u64, to: &impl Print) -> io::Result<()> {
-    print!(to; "{what}{n}")
-}
-
-fn one_more(n: u64, on: bool) -> u64 {
-    n.wrapping_add(u64::from(on))
-}
-
-// How many records were replayed.
-fn replayed(t: Tally) -> u64 {
-    t.accepted.wrapping_add(t.refused)
-}
-
-fn counted(t: Tally, is_accepted: bool, same: bool, to: &impl Print) -> io::Result<Tally> {
-    if !same {
-        say("difference at ", replayed(t), to)?;
-        print!(to; "\n")?;
-    }
-    Ok(Tally {
-        accepted: one_more(t.accepted, is_accepted),
-        refused: one_more(t.refused, !is_accepted),
-        differences: one_more(t.differences, !same),
-        going: true,
-    })
-}
-
-fn ended(t: Tally) -> Tally {
-    Tally {
-        accepted: t.accepted,
-        refused: t.refused,
-        differences: t.differences,
-        going: false,
-    }
-}
-
-fn cut(t: Tally, to: &impl Print) -> io::Result<Tally> {
-    say("cut at ", replayed(t), to)?;
-    print!(to; "\n")?;
-    Ok(ended(t))
-}
-
-fn wide(b: u8) -> u32 {
-    b as u32
-}
-
-// Four bytes as a number.
-fn word(a: u8, b: u8, c: u8, d: u8) -> u32 {
-    wide(a) | wide(b) << 8 | wide(c) << 16 | wide(d) << 24
-}
-
-fn expectation(head: &[u8]) -> Expected
-    requires { length head.now ≡ 26 }
+fn refused_agrees(record: &[u8], e: Expected, strip: &[u8]) -> bool
+    requires { length strip.now ≤ 256 }
 {
-    Expected {
-        number: wide(head[23]),
-        slot: wide(head[18]) as usize,
-        mark: word(head[19], head[20], head[21], head[22]),
-    }
+    agrees(record, e, strip, 300) && agrees(record, e, strip, 0)
 }
 
-// The strip of a record, and the record replayed.
-fn replay(
-    t: Tally,
-    head: &[u8],
-    strip: &mut [u8],
-    from: &mut impl Read,
-    to: &impl Print,
-) -> io::Result<Tally>
-    requires { length head.now ≡ 26 }
-{
-    let n = word(head[24], head[25], 0, 0) as usize;
-    if strip.len() < n {
-        return cut(t, to);
-    }
-    if read_full(from, &mut strip[0..n]) < n {
-        return cut(t, to);
-    }
-    let same = record_agrees(&head[0..18], expectation(head), &strip[0..n]);
-    counted(t, head[23] == 0, same, to)
+// The next record of the input: its strip's length; the input may be cut in it, or end before it.
+enum Got {
+    Record(usize),
+    Cut,
+    End,
 }
 
-// One record of the input.
-fn next(
-    t: Tally,
-    head: &mut [u8],
-    strip: &mut [u8],
-    from: &mut impl Read,
-    to: &impl Print,
-) -> io::Result<Tally>
-    requires { (length head.old ≡ 26) × (length strip.old ≡ 256) }
-    ensures { (length head.new ≡ 26) × (length strip.new ≡ 256) }
+fn read_record(from: &mut impl Read, head: &mut [u8; 26], strip: &mut [u8; 256]) -> Got
+    ensures { IsWithin 256 result }
 {
-    let n = read_full(from, head);
+    let (n, _) = read_full(from, head);
     if n == 0 {
-        return Ok(ended(t));
+        return Got::End;
     }
     if n < head.len() {
-        return cut(t, to);
+        return Got::Cut;
     }
-    replay(t, head, strip, from, to)
-}
-
-fn summary(t: Tally, to: &impl Print) -> io::Result<()> {
-    say("records ", replayed(t), to)?;
-    say(", accepted ", t.accepted, to)?;
-    say(", refused ", t.refused, to)?;
-    say(", differences ", t.differences, to)?;
-    print!(to; "\n")
+    let length = usize::from(u16::from_le_bytes([head[24], head[25]]));
+    if strip.len() < length || read_full(from, &mut strip[..length]).0 < length {
+        return Got::Cut;
+    }
+    Got::Record(length)
 }
 
 fn main(rt: HostRuntime) -> io::Result<()> {
     let mut from = rt.stdin();
-    let mut head = [0u8; 26];
-    let mut strip = [0u8; 256];
-    let mut t = Tally {
-        accepted: 0,
-        refused: 0,
-        differences: 0,
-        going: true,
-    };
-    // A proved loop ends: it counts down from more records than the list can have.
-    let mut left: u64 = 0x1_0000_0000;
-    while left > 0 && t.going {
-        t = next(t, &mut head, &mut strip, &mut from, &rt)?;
-        left -= 1;
+    let mut head = [0; 26];
+    let mut strip = [0; 256];
+    let mut tally = Tally::new();
+    // A proved loop ends: these are more records than the list can have.
+    for _ in 0..0x1_0000_0000u64 {
+        let replayed = tally.replayed();
+        match read_record(&mut from, &mut head, &mut strip) {
+            Got::Record(n) => {
+                let e = expectation(&head);
+                let accepted = e.number == 0;
+                let same = if accepted {
+                    accepted_agrees(&head[..18], e, &strip[..n])
+                } else {
+                    refused_agrees(&head[..18], e, &strip[..n])
+                };
+                if !same {
+                    println!(rt; "difference at {replayed}")?;
+                }
+                tally.count(accepted, same);
+            }
+            Got::Cut => {
+                println!(rt; "cut at {replayed}")?;
+                break;
+            }
+            Got::End => break,
+        }
     }
-    summary(t, &rt)
+    let replayed = tally.replayed();
+    let Tally {
+        accepted,
+        refused,
+        differences,
+    } = tally;
+    println!(rt;
+        "records {replayed}, accepted {accepted}, refused {refused}, differences {differences}"
+    )
 }

@@ -1,5 +1,7 @@
 -- The theorems of #105, of whatever bytes, bound, table and room are accepted: reading the words ends as evaluating the bytes does, the words are valid,
 -- and they make the ids from the bound to the free one that is handed back.
+use Rattle.std.specs.Prelude.{Ok, Err}
+use Rattle.evaluation.specs.Machine.{Outcome}
 use Rattle.std.proofs.Common.{◌≡◌, ℕ, Bool, true, false, cond, ◌&&◌, eqb, ltb, leb, List, [], ◌∷◌, length, sym, refl, ap, ◌∙◌, arith}
 use mathlib.Core.Option.{some}
 use mathlib.Core.Bool.{false≢true}
@@ -10,8 +12,6 @@ use Rattle.strip.proofs.Tests.{and_left}
 use Rattle.strip.proofs.Encode.{Bytes}
 use Rattle.strip.proofs.Run.{Strip, shape-strips}
 use Rattle.evaluation.specs.declared.state.State.{State}
-use Rattle.evaluation.specs.declared.machine.Outcome.{Outcome}
-use Rattle.evaluation.specs.declared.machine.Outcome.TheVariants.{Done, Refused as Refuses}
 use Rattle.evaluation.specs.declared.machine.Refusal.TheVariants.{BadShape, UndefinedValue, NoConstant}
 use Rattle.evaluation.specs.Machine.{begun, entries_from, strips_from, evaluated}
 use Rattle.evaluation.proofs.Flat.{evaluated-strips}
@@ -98,10 +98,10 @@ module _ (run : List ℕ) (bytes : Bytes run) (bound : ℕ) (table : List ℕ) (
   never-broken s cs b = go (evaluated wide run s cs).outcome (written-reads s cs)
     where
       go : (o : Outcome) → EndsOn o (evaluated wide run s cs).state (meaning words (lent_env table) s cs) → ⊥
-      go Done h = let z : ◌≡◌ {A = ℕ} 0 1 = cc in absurd (omega arith)
-      go (Refuses BadShape) h = h
-      go (Refuses UndefinedValue) h = let e = h.2 in let z : ◌≡◌ {A = ℕ} 0 1 = cc in absurd (omega arith)
-      go (Refuses (NoConstant slot vec comp)) h = let e = h.2 in let z : ◌≡◌ {A = ℕ} 0 1 = cc in absurd (omega arith)
+      go (Ok u) h = let z : ◌≡◌ {A = ℕ} 0 1 = cc in absurd (omega arith)
+      go (Err BadShape) h = h
+      go (Err UndefinedValue) h = let e = h.2 in let z : ◌≡◌ {A = ℕ} 0 1 = cc in absurd (omega arith)
+      go (Err (NoConstant slot vec comp)) h = let e = h.2 in let z : ◌≡◌ {A = ℕ} 0 1 = cc in absurd (omega arith)
 
   pub written-valid : valid (lent_sorts table) words ≡ true
   written-valid =

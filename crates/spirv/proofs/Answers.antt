@@ -12,19 +12,21 @@ use Rattle.strip.specs.Pass.{fresh}
 use Rattle.strip.proofs.Tests.{and_left, and_right}
 use Rattle.strip.proofs.Encode.{Bytes}
 use Rattle.strip.proofs.Run.{Strip, at-most-64, shape-strips}
-use Rattle.spirv.specs.declared.pen.Pen.{Pen}
+use Rattle.spirv.specs.declared.plan.Name.{Name}
+use Rattle.spirv.specs.declared.page.Tape.{Tape}
+use Rattle.spirv.specs.declared.page.Page.{Page}
 use Rattle.spirv.specs.Instr.{Instr, words_of, all_words}
-use Rattle.spirv.specs.Writer.{Const, listed, place_of, constants_of, Given, given, given_of, lent, const_id, Midway, midway, start_of, const_instrs, body_from, instrs_of_strip, strip_words, last_from, next_id, clash_from, id_limit, lent_ok, table_ok, ids_ok, Written, Words, Refused, strip_answer, only_strip, written}
+use Rattle.spirv.specs.Writer.{Const, listed, place_of, constants_of, Given, given, given_of, lent, const_id, name, Midway, midway, start_of, const_instrs, body_from, instrs_of_strip, strip_words, last_from, next_id, clash_from, id_limit, lent_ok, table_ok, ids_ok, Written, Words, Refused, strip_answer, only_strip, written}
 use Rattle.spirv.specs.Answer.{accepted, refused, placed, answer}
-use Rattle.spirv.specs.Page.{consts_in, survey_from, Tape, tape, put_one, puts, Page, page, first_id, begin, part, settled, entered_part_from}
+use Rattle.spirv.specs.Page.{survey_from, tape, put_one, puts, first_id, blank, part, settled, entered_part_from}
 use Rattle.spirv.proofs.Constants.{all_listed}
-use Rattle.spirv.proofs.Listed.{listed-place, consts-length}
+use Rattle.spirv.proofs.Listed.{listed-place}
 use Rattle.spirv.proofs.Tapes.{length-map}
 use Rattle.spirv.proofs.Surveys.{surveyed-none, surveyed-some}
 use Rattle.spirv.proofs.Shaped.{shaped-fair}
 use Rattle.spirv.proofs.Simulation.{FairFrom}
-use Rattle.spirv.proofs.Linked.{Like, Links, linked, words_append}
-use Rattle.spirv.proofs.Bounds.{strip-sized, last-above, InstrOf, body-fits, strip-consts-fit, lents-low}
+use Rattle.spirv.proofs.Linked.{Like, entered_all, Links, linked, words_append}
+use Rattle.spirv.proofs.Bounds.{strip-sized, last-above, last-below, InstrOf, body-fits, strip-consts-fit, lents-low}
 use Rattle.spirv.proofs.Moved.{moved, stays, moves, moved_instr, moved_midway, body-moves}
 use Rattle.spirv.proofs.OnePass.{part-is}
 use Rattle.spirv.proofs.Bodies.{reads-entries}
@@ -139,26 +141,22 @@ refused-7 run bound table out p = go (shape_ok wide run) refl (decode wide run) 
     go true h (some (es ∷ [])) d = absurd (surveyed-none run p es d h)
     go true h (some (es ∷ ds ∷ ss)) d = refl
 
--- what the pass leaves of a strip in order: a pen, the constants' keys and a buffer, which were zeros
-pub record Done (run : List ℕ) (bound : ℕ) (table : List ℕ) (q : Pen) (n : ℕ) (keys buf : List ℕ) : Type 0 where
+-- what is given is the table, the bound and the constants
+pub put-is : (t : List ℕ) (b : ℕ) (g : Given) (u w : Tape) → g ≡ given t b g.constants → w ≡ puts u (all_words (const_instrs g g.bound g.constants)) → w ≡ puts u (all_words (const_instrs (given t b g.constants) b g.constants))
+put-is t b g u w e h = h ∙ ap (λ (i : Given). puts u (all_words (const_instrs i i.bound g.constants))) e
+
+-- what the pass leaves of a strip in order: its constants and a page, which was blank
+pub record Done (run : List ℕ) (bound : ℕ) (table : List ℕ) (l : List Const) (q : Page) : Type 0 where
   pub bytes : Bytes run
   pub bound-fits : bound < 2 ^ 32
   pub table_fits : (j : ℕ) → get_or table j 0 < 2 ^ 32
-  pub few : n ≤ 64
-  pub whole : survey_from fresh [] (reads_from wide 0 run) ≡ some (consts_in keys n)
-  pub ids : List ℕ
-  pub signs : List Bool
-  pub last : page q ids signs buf ≡ entered_part_from table bound [] (page begin (replicate 64 0) (replicate 64 false) (replicate 512 0)) (reads_from wide 0 run)
+  pub few : length l ≤ 64
+  pub whole : survey_from fresh [] (reads_from wide 0 run) ≡ some l
+  pub last : q ≡ entered_part_from table bound [] blank (reads_from wide 0 run)
 
-module _ (run : List ℕ) (bound : ℕ) (table out : List ℕ) (q : Pen) (n : ℕ) (keys buf : List ℕ) (d : Done run bound table q n keys buf) where
-  abbrev l : List Const
-  l = consts_in keys n
-
+module _ (run : List ℕ) (bound : ℕ) (table out : List ℕ) (l : List Const) (q : Page) (d : Done run bound table l q) where
   abbrev s : survey_from fresh [] (reads_from wide 0 run) ≡ some l
   s = d.whole
-
-  count : n ≡ length l
-  count = sym (consts-length keys n 0)
 
   abbrev es : List Entry
   es = (surveyed-some run l s).0
@@ -198,39 +196,44 @@ module _ (run : List ℕ) (bound : ℕ) (table out : List ℕ) (q : Pen) (n : �
   words_are = rw given_is (words_append (const_instrs g bound l) (body_from g (start_of g) es))
 
   abbrev p : Page
-  p = page begin (replicate 64 0) (replicate 64 false) (replicate 512 0)
+  p = blank
 
   abbrev start : Midway
   start = midway first_id [] 0
 
   abbrev first : ℕ
-  first = bound + n
+  first = bound + length l
 
   fair : FairFrom g [] [] es
   fair = shaped-fair g [] es in_order.0 in_order.1 (rw (← (surveyed-some run l s).3) at (all_listed es))
 
-  links : Links g p (page q d.ids d.signs buf) start es
+  like : Like start p
+  unfolding decode names
+  like = record { next = refl; merge = refl; values = refl; names = λ r h. absurd (omega arith); full = length-replicate {A = Name} 64 (name 0 false) }
+
+  page-is : q ≡ entered_all g p es
+  unfolding decode names
+  page-is =
+      let most = at-most-64 es in_order.1 in
+      d.last
+      ∙ reads-entries table bound (reads_from wide 0 run) es decoded [] p
+      ∙ part-is table bound first_id l [] (omega (arith, d.few)) es [] [] start p like fair (sym (surveyed-some run l s).3) refl (omega arith) (omega arith) (omega arith) (λ r h. let z = ltb-true r 0 (and_left (ltb r 0) _ h) in absurd (omega arith))
+
+  links : Links g p q start es
   unfolding decode names
   links =
-      let like : Like start p = record { next = refl; merge = refl; values = refl; names = λ r h. absurd (omega arith); ids = length-replicate {A = ℕ} 64 0; signs = length-replicate {A = Bool} 64 false } in
       let most = at-most-64 es in_order.1 in
-      rw (
-        d.last,
-        reads-entries table bound (reads_from wide 0 run) es decoded [] p,
-        part-is table bound first_id l [] (omega (arith, count)) es [] [] start p like fair (sym (surveyed-some run l s).3) refl (omega arith) (omega arith) (omega arith) (λ r h. let z = ltb-true r 0 (and_left (ltb r 0) _ h) in absurd (omega arith)),
-      )
-      (linked g [] es [] start p like fair refl (omega arith) (omega arith))
+      subst (λ (x : Page). Links g p x start es) (sym page-is) (linked g [] es [] start p like fair refl (omega arith) (omega arith))
 
   -- a listed constant's id
   const-low : (k : Const) → listed l k ≡ true → const_id g k < first
   unfolding const_id
-  const-low k h = let m = ltb-true (place_of l k) (length l) (sym (listed-place l k) ∙ h) in omega (arith, count)
+  const-low k h = let m = ltb-true (place_of l k) (length l) (sym (listed-place l k) ∙ h) in omega (arith, m)
 
   start_is : start_of g ≡ moved_midway first_id first start
   start_is =
-      let x : bound + length l ≡ first = omega (arith, count) in
       let y : first + (first_id - first_id) ≡ first = omega arith in
-      rw (x, moves first_id first first_id (omega arith), stays first_id first 0 (omega arith), y)
+      rw (moves first_id first first_id (omega arith), stays first_id first 0 (omega arith), y)
 
   moving : (body_from g (moved_midway first_id first start) es ≡ map (moved_instr first_id first) (body_from g start es)) × (last_from g (moved_midway first_id first start) es ≡ moved_midway first_id first (last_from g start es)) × (clash_from g (moved_midway first_id first start) es ≡ clash_from g start es)
   moving = body-moves first_id first g [] (omega arith) (λ j. omega (arith, d.table_fits j)) (λ k h. let m = const-low k h in (omega arith, m)) es [] start fair (omega arith)
@@ -249,6 +252,9 @@ module _ (run : List ℕ) (bound : ℕ) (table out : List ℕ) (q : Pen) (n : �
 
   pub next-begins : first_id ≤ q.next
   next-begins = rw links.next (last-above g es start)
+
+  pub next-ends : q.next ≤ first_id + 128
+  next-ends = rw links.next (omega (arith, last-below g es start, at-most-64 es in_order.1))
 
   abbrev verdict : Bool → Bool → Bool → Written
   verdict c t r = cond c (Refused 17) (cond t (cond r (Refused 11) (Words (strip_words table bound es) (length (all_words (const_instrs (given_of table bound es) bound (constants_of es)))) (next_id table bound es))) (Refused 10))
@@ -282,14 +288,6 @@ module _ (run : List ℕ) (bound : ℕ) (table out : List ℕ) (q : Pen) (n : �
           go true x h = let l = leb-true next (suc id_limit) x in omega arith
           go false x h = let e = eqb-true next bound h in absurd (omega arith)
 
-      -- the free id is a word
-      pub next_fits : next < 4294967296
-      next_fits = go (leb next (suc id_limit)) refl (and_right (table_ok table bound) _ ids-in-order)
-        where
-          go : (b : Bool) → leb next (suc id_limit) ≡ b → b || eqb next bound ≡ true → next < 4294967296
-          go true x h = let l = leb-true next (suc id_limit) x in omega arith
-          go false x h = let e = eqb-true next bound h in omega arith
-
       lents : (j : ℕ) → get_or table j 0 ≤ id_limit
       unfolding table_ok
       lents = lents-low table bound (and_left (all (lent_ok bound) table) _ (and_right (eqb (length table) 303) _ (and_left (table_ok table bound) _ ids-in-order)))
@@ -321,56 +319,56 @@ module _ (run : List ℕ) (bound : ℕ) (table out : List ℕ) (q : Pen) (n : �
       sized : length constants + length counted ≤ 448
       sized = omega (arith, strip-sized table bound es in_order.0 in_order.1, whole_length, counted-length)
 
-      at-is : q.at ≡ length counted
+      at-is : q.words.at ≡ length counted
       at-is = ap (λ (t : Tape). t.at) links.words ∙ puts-at counted (tape (replicate 512 0) 0) (omega (arith, sized)) ∙ zero-on (length counted)
 
-      body-words : take q.at buf ≡ map low counted
+      body-words : take q.words.at q.words.buf ≡ map low counted
       body-words = ap₂ (λ (k : ℕ) (m : List ℕ). take k m) (at-is ∙ sym (zero-on (length counted))) (ap (λ (t : Tape). t.buf) links.words) ∙ puts-take counted (tape (replicate 512 0) 0) (length-replicate {A = ℕ} 512 0) (omega (arith, sized))
 
-      full-buf : length buf ≡ 512
+      full-buf : length q.words.buf ≡ 512
       full-buf = ap (λ (t : Tape). length t.buf) links.words ∙ puts-full counted (tape (replicate 512 0) 0) ∙ length-replicate {A = ℕ} 512 0
 
       -- then the list of constants is put after them
-      module _ (buf' : List ℕ) (end : ℕ) (put : tape buf' end ≡ puts (tape buf q.at) constants) where
-        end_is : end ≡ length constants + length counted
-        end_is = ap (λ (t : Tape). t.at) put ∙ puts-at constants (tape buf q.at) (omega (arith, sized, at-is)) ∙ sum at-is
+      module _ (w : Tape) (put : w ≡ puts q.words constants) where
+        end_is : w.at ≡ length constants + length counted
+        end_is = ap (λ (t : Tape). t.at) put ∙ puts-at constants q.words (omega (arith, sized, at-is)) ∙ sum at-is
           where
-            sum : q.at ≡ length counted → q.at + length constants ≡ length constants + length counted
+            sum : q.words.at ≡ length counted → q.words.at + length constants ≡ length constants + length counted
             sum h = omega arith
 
-        pub room-of-buffer : (q.at ≤ end) × ((end ≤ 512) × (length buf' ≡ 512))
-        room-of-buffer = (omega (arith, end_is, at-is), (omega (arith, end_is, sized), ap (λ (t : Tape). length t.buf) put ∙ puts-full constants (tape buf q.at) ∙ full-buf))
+        pub room-of-buffer : (q.words.at ≤ w.at) × ((w.at ≤ 512) × (length w.buf ≡ 512))
+        room-of-buffer = (omega (arith, end_is, at-is), (omega (arith, end_is, sized), ap (λ (t : Tape). length t.buf) put ∙ puts-full constants q.words ∙ full-buf))
 
-        both-parts : (take q.at buf' ≡ map low counted) × (part buf' q.at (end - q.at) ≡ constants)
+        both-parts : (take q.words.at w.buf ≡ map low counted) × (part w.buf q.words.at (w.at - q.words.at) ≡ constants)
         both-parts =
-            let k : q.at ≡ length (map low counted) = at-is ∙ sym (length-map low counted) in
-            let m : end - q.at ≡ length constants = omega (arith, end_is, at-is) in
-            let fit : map low constants ≡ constants = subst (λ (ks : List Const). map low (all_words (const_instrs g bound ks)) ≡ all_words (const_instrs g bound ks)) (sym (surveyed-some run l s).3) (low_same _ (strip-consts-fit g (λ j. omega (arith, lents j)) es in_order.0 bound (λ j u v. omega (arith, new-low j u (omega (arith, v, count, ap length (surveyed-some run l s).3, next-begins)))))) in
-            let h : take (length (map low counted) + length constants) buf' ≡ map low counted ++ constants =
-            ap (λ (x : ℕ). take (x + length constants) buf') (sym k) ∙ (ap (λ (t : Tape). take (q.at + length constants) t.buf) put ∙ puts-take constants (tape buf q.at) full-buf (omega (arith, sized, at-is)) ∙ ap₂ (λ (x y : List ℕ). x ++ y) body-words fit) in
-            let cut = cut_at (map low counted) constants buf' h in
-            (ap (λ (x : ℕ). take x buf') k ∙ cut.0, ap₂ (part buf') k m ∙ cut.1)
+            let k : q.words.at ≡ length (map low counted) = at-is ∙ sym (length-map low counted) in
+            let m : w.at - q.words.at ≡ length constants = omega (arith, end_is, at-is) in
+            let fit : map low constants ≡ constants = subst (λ (ks : List Const). map low (all_words (const_instrs g bound ks)) ≡ all_words (const_instrs g bound ks)) (sym (surveyed-some run l s).3) (low_same _ (strip-consts-fit g (λ j. omega (arith, lents j)) es in_order.0 bound (λ j u v. omega (arith, new-low j u (omega (arith, v, ap length (surveyed-some run l s).3, next-begins)))))) in
+            let h : take (length (map low counted) + length constants) w.buf ≡ map low counted ++ constants =
+            ap (λ (x : ℕ). take (x + length constants) w.buf) (sym k) ∙ (ap (λ (t : Tape). take (q.words.at + length constants) t.buf) put ∙ puts-take constants q.words full-buf (omega (arith, sized, at-is)) ∙ ap₂ (λ (x y : List ℕ). x ++ y) body-words fit) in
+            let cut = cut_at (map low counted) constants w.buf h in
+            (ap (λ (x : ℕ). take x w.buf) k ∙ cut.0, ap₂ (part w.buf) k m ∙ cut.1)
 
-        pub refused-11 : length out < end → refused 11 out ≡ answer run bound table out
+        pub refused-11 : length out < w.at → refused 11 out ≡ answer run bound table out
         unfolding placed
         refused-11 h = verdict-is false true true no-clash both_ok (lt-ltb (length out) (length (strip_words table bound es)) (omega (arith, h, end_is, whole_length, counted-length)))
 
-        constants-are : end - q.at ≡ length (all_words (const_instrs (given_of table bound es) bound (constants_of es)))
+        constants-are : w.at - q.words.at ≡ length (all_words (const_instrs (given_of table bound es) bound (constants_of es)))
         constants-are = minus ∙ ap₂ (λ (h : Given) (ks : List Const). length (all_words (const_instrs h bound ks))) (sym given_is) (surveyed-some run l s).3
           where
-            minus : end - q.at ≡ length constants
+            minus : w.at - q.words.at ≡ length constants
             minus = omega (arith, end_is, at-is)
 
         -- and both are copied, first the list of constants
-        module _ (out₁ : List ℕ) (copied : out₁ ≡ sets out 0 (part buf' q.at (end - q.at))) where
+        module _ (out₁ : List ℕ) (copied : out₁ ≡ sets out 0 (part w.buf q.words.at (w.at - q.words.at))) where
           pub copied-length : length out₁ ≡ length out
-          copied-length = ap length copied ∙ length-sets out 0 (part buf' q.at (end - q.at))
+          copied-length = ap length copied ∙ length-sets out 0 (part w.buf q.words.at (w.at - q.words.at))
 
-          pub accepts : (f : ℕ) → f ≡ first → (out₂ : List ℕ) → out₂ ≡ sets out₁ (end - q.at) (map (settled (f % 4294967296)) (take q.at buf')) → end ≤ length out → accepted end (end - q.at) (f + (q.next - first_id)) out₂ ≡ answer run bound table out
+          pub accepts : (f : ℕ) → f ≡ first → (out₂ : List ℕ) → out₂ ≡ sets out₁ (w.at - q.words.at) (map (settled (f % 4294967296)) (take q.words.at w.buf)) → w.at ≤ length out → accepted w.at (w.at - q.words.at) (f + (q.next - first_id)) out₂ ≡ answer run bound table out
           unfolding placed
           accepts f is out₂ settled-too h =
-              let m : end - q.at ≡ 0 + length constants = omega (arith, end_is, at-is) in
-              let e : end ≡ length (strip_words table bound es) = omega (arith, end_is, whole_length, counted-length) in
+              let m : w.at - q.words.at ≡ 0 + length constants = omega (arith, end_is, at-is) in
+              let e : w.at ≡ length (strip_words table bound es) = omega (arith, end_is, whole_length, counted-length) in
               let z : 0 + length (strip_words table bound es) ≡ length (strip_words table bound es) = omega arith in
               let whole : out₂ ≡ strip_words table bound es ++ drop (length (strip_words table bound es)) out =
               rw (settled-too, copied, is, both-parts.0, both-parts.1, settled-body, m) (sets_then constants body out 0 ∙ ap (sets out 0) (sym words_are) ∙ sets-eq (strip_words table bound es) out 0 (omega arith) ∙ ap (λ (k : ℕ). strip_words table bound es ++ drop k out) z) in

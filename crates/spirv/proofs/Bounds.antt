@@ -185,6 +185,11 @@ unfolding last_from
 last-above g [] m = omega arith
 last-above g (e ∷ es) m = let a = next_grows m (plan_of g (name_at m.names) e) in let b = last-above g es (stepped g m e) in omega (arith, a.0)
 
+pub last-below : (g : Given) (es : List Entry) (m : Midway) → (last_from g m es).next ≤ m.next + 2 * length es
+unfolding last_from
+last-below g [] m = omega arith
+last-below g (e ∷ es) m = let a = next_grows m (plan_of g (name_at m.names) e) in let b = last-below g es (stepped g m e) in omega (arith, a.1)
+
 -- what holds of small numbers, lent ids, listed constants' ids and new ones holds of every operand
 module _ (P : ℕ → Type 0) (small : (w : ℕ) → w < 65536 → P w) where
   abbrev pub InstrOf : Instr → Type 0

@@ -12,7 +12,9 @@ use Rattle.spirv.specs.declared.plan.Name.{Name}
 use Rattle.spirv.specs.Opcodes.{op_of}
 use Rattle.spirv.specs.Instr.{Instr, words_of, all_words}
 use Rattle.spirv.specs.Writer.{Given, lent, type_id, name, name_at, Plan, Silent, Known, Made, Stores, Opens, Closes, planned, first_sign, sign_of, operation, casting, plan_of, Midway, midway, instrs_by, after, stepped, body_from, last_from, clashes, clash_from}
-use Rattle.spirv.specs.Page.{look_of, Tape, puts, Page, named, laid, wrote, clashed, entered}
+use Rattle.spirv.specs.declared.page.Tape.{Tape}
+use Rattle.spirv.specs.declared.page.Page.{Page}
+use Rattle.spirv.specs.Page.{look_of, puts, named, laid, wrote, clashed, entered}
 use Rattle.spirv.proofs.Tapes.{puts_then}
 use Rattle.spirv.proofs.Typing.{named-there}
 use Rattle.spirv.proofs.Naming.{naming, Names, plan-names}
@@ -71,9 +73,8 @@ pub record Like (m : Midway) (p : Page) : Type 0 where
   pub next : p.next ≡ m.next
   pub merge : p.merge ≡ m.merge
   pub values : p.values ≡ length m.names
-  pub names : (r : ℕ) → r < length m.names → look_of p.ids p.signs r ≡ name_at m.names r
-  pub ids : length p.ids ≡ 64
-  pub signs : length p.signs ≡ 64
+  pub names : (r : ℕ) → r < length m.names → look_of p.names r ≡ name_at m.names r
+  pub full : length p.names ≡ 64
 
 length-snoc : (ns : List Name) (x : Name) → length (ns ++ (x ∷ [])) ≡ suc (length ns)
 length-snoc [] x = refl
@@ -95,26 +96,25 @@ module _ (m : Midway) (p : Page) (x : Name) (k : Like m p) (s : length m.names <
   at-end : length m.names % 64 ≡ length m.names
   at-end = omega arith
 
-  named-at : (r : ℕ) → r < suc (length m.names) → look_of (set p.ids (length m.names) x.id) (set p.signs (length m.names) x.signed) r ≡ name_at (m.names ++ (x ∷ [])) r
+  named-at : (r : ℕ) → r < suc (length m.names) → look_of (set p.names (length m.names) x) r ≡ name_at (m.names ++ (x ∷ [])) r
   named-at r h =
       let low : r % 64 ≡ r = omega arith in
       rw low (go (eqb r (length m.names)) refl)
     where
-      go : (b : Bool) → eqb r (length m.names) ≡ b → name (get_or (set p.ids (length m.names) x.id) r 0) (get_or (set p.signs (length m.names) x.signed) r false) ≡ name_at (m.names ++ (x ∷ [])) r
+      go : (b : Bool) → eqb r (length m.names) ≡ b → get_or (set p.names (length m.names) x) r (name 0 false) ≡ name_at (m.names ++ (x ∷ [])) r
       go true e =
           let is = eqb-true r (length m.names) e in
-          let a = k.ids in
-          let b = k.signs in
-          rw (is, get_or-set_same p.ids (length m.names) x.id 0 (omega arith), get_or-set_same p.signs (length m.names) x.signed false (omega arith)) (sym (name_new m.names x))
+          let a = k.full in
+          rw (is, get_or-set_same p.names (length m.names) x (name 0 false) (omega arith)) (sym (name_new m.names x))
       go false e =
           let ne = eqb-false r (length m.names) e in
           let below : r < length m.names = omega (arith, ne) in
           let low : r % 64 ≡ r = omega arith in
-          let old : name (get_or p.ids r 0) (get_or p.signs r false) ≡ name_at m.names r = rw low at (k.names r below) in
-          rw (get_or-set_other p.ids (length m.names) r x.id 0 ne, get_or-set_other p.signs (length m.names) r x.signed false ne) (old ∙ sym (name-old m.names x r below))
+          let old : get_or p.names r (name 0 false) ≡ name_at m.names r = rw low at (k.names r below) in
+          rw (get_or-set_other p.names (length m.names) r x (name 0 false) ne) (old ∙ sym (name-old m.names x r below))
 
   like-named : (n n' j j' : ℕ) (t : Tape) → n' ≡ n → j' ≡ j
-      → Like (midway n (m.names ++ (x ∷ [])) j) (named (record { next = n'; merge = j'; values = p.values; ids = p.ids; signs = p.signs; words = t; clash = p.clash }) x)
+      → Like (midway n (m.names ++ (x ∷ [])) j) (named (record p { next = n'; merge = j'; words = t }) x)
   unfolding named
   like-named n n' j j' t a b =
       let v = k.values in
@@ -125,8 +125,7 @@ module _ (m : Midway) (p : Page) (x : Name) (k : Like m p) (s : length m.names <
         merge = b;
         values = more ∙ sym (length-snoc m.names x);
         names = λ r h. rw u (named-at r (rw (length-snoc m.names x) at h));
-        ids = length-set p.ids (p.values % 64) x.id ∙ k.ids;
-        signs = length-set p.signs (p.values % 64) x.signed ∙ k.signs;
+        full = length-set p.names (p.values % 64) x ∙ k.full;
       }
 
 -- the words of a plan need the next id and the merge label alone
@@ -170,18 +169,18 @@ module _ (m : Midway) (p : Page) (k : Like m p) (s : length m.names < 64) (h : m
       let n = k.next in
       let up : (p.next + 1) % 2 ^ 64 ≡ suc m.next = rw n (omega arith) in
       rw n (like-named m p (name m.next b) k s (suc m.next) ((m.next + 1) % 2 ^ 64) m.merge p.merge _ (rw n at up) k.merge)
-  wrote-like (Stores a v) = record { next = k.next; merge = k.merge; values = k.values; names = k.names; ids = k.ids; signs = k.signs }
+  wrote-like (Stores a v) = record { next = k.next; merge = k.merge; values = k.values; names = k.names; full = k.full }
   wrote-like (Opens c) =
       let n = k.next in
       let one : (p.next + 1) % 2 ^ 64 ≡ suc m.next = rw n (omega arith) in
       let two : (p.next + 2) % 2 ^ 64 ≡ suc (suc m.next) = rw n (omega arith) in
-      record { next = two; merge = one; values = k.values; names = k.names; ids = k.ids; signs = k.signs }
-  wrote-like Closes = record { next = k.next; merge = k.merge; values = k.values; names = k.names; ids = k.ids; signs = k.signs }
+      record { next = two; merge = one; values = k.values; names = k.names; full = k.full }
+  wrote-like Closes = record { next = k.next; merge = k.merge; values = k.values; names = k.names; full = k.full }
 
 -- 17 changes nothing but itself
 clashed-like : (m : Midway) (p : Page) (b : Bool) → Like m p → Like m (clashed b p)
 unfolding clashed
-clashed-like m p true k = record { next = k.next; merge = k.merge; values = k.values; names = k.names; ids = k.ids; signs = k.signs }
+clashed-like m p true k = record { next = k.next; merge = k.merge; values = k.values; names = k.names; full = k.full }
 clashed-like m p false k = k
 
 clashed-words : (p : Page) (b : Bool) → (clashed b p).words ≡ p.words
@@ -197,15 +196,15 @@ clashed-met p false true h = refl
 clashed-met p false false h = h
 
 -- an entry's references are known alike on both sides, and it leads to the same place
-pub refs-same : (g : Given) (before : List ℕ) (m : Midway) (p : Page) → Like m p → length m.names ≡ length before → (e : Entry) → Fair g before e → Same (look_of p.ids p.signs) (name_at m.names) (refs_of e)
+pub refs-same : (g : Given) (before : List ℕ) (m : Midway) (p : Page) → Like m p → length m.names ≡ length before → (e : Entry) → Fair g before e → Same (look_of p.names) (name_at m.names) (refs_of e)
 refs-same g before m p k l e f =
-    same-below (look_of p.ids p.signs) (name_at m.names) (length m.names) k.names (refs_of e) (named-there before (length m.names) (sym l) (format_of (kind_of e)).operands (refs_of e) f.refs)
+    same-below (look_of p.names) (name_at m.names) (length m.names) k.names (refs_of e) (named-there before (length m.names) (sym l) (format_of (kind_of e)).operands (refs_of e) f.refs)
 
-pub entry-like : (g : Given) (m : Midway) (p : Page) → Like m p → length m.names < 64 → m.next + 2 < 2 ^ 64 → (e : Entry) → Same (look_of p.ids p.signs) (name_at m.names) (refs_of e) → Like (stepped g m e) (entered g p e)
+pub entry-like : (g : Given) (m : Midway) (p : Page) → Like m p → length m.names < 64 → m.next + 2 < 2 ^ 64 → (e : Entry) → Same (look_of p.names) (name_at m.names) (refs_of e) → Like (stepped g m e) (entered g p e)
 unfolding entered
 entry-like g m p k s h e refs =
-    rw (plan-same (look_of p.ids p.signs) (name_at m.names) g e refs)
-    (clashed-like (after m (plan_of g (name_at m.names) e)) (wrote p (plan_of g (name_at m.names) e)) (clashes g (look_of p.ids p.signs) e) (wrote-like m p k s h (plan_of g (name_at m.names) e)))
+    rw (plan-same (look_of p.names) (name_at m.names) g e refs)
+    (clashed-like (after m (plan_of g (name_at m.names) e)) (wrote p (plan_of g (name_at m.names) e)) (clashes g (look_of p.names) e) (wrote-like m p k s h (plan_of g (name_at m.names) e)))
 
 -- ---- as many names as the shape test counts values
 pub names-grow : (m : Midway) (plan : Plan) (k : ℕ) (before : List ℕ) → Names k plan → length m.names ≡ length before → length (after m plan).names ≡ length (before ++ cond (eqb (format_of k).result 0) [] ((format_of k).result ∷ []))
@@ -284,7 +283,7 @@ module _ (g : Given) where
   linked cs [] before m p k f l c n = record { words = refl; next = k.next; clash = or-none p.clash }
   linked cs (e ∷ es) before m p k f l c n =
       let room : length m.names < 64 = omega arith in
-      let look : ℕ → Name = look_of p.ids p.signs in
+      let look : ℕ → Name = look_of p.names in
       let plan : Plan = plan_of g (name_at m.names) e in
       let bad : Bool = clashes g (name_at m.names) e in
       let there = named-there before (length m.names) (sym l) (format_of (kind_of e)).operands (refs_of e) f.0.refs in

@@ -1,57 +1,25 @@
--- The list of constants as keys in an array.
-use Rattle.std.proofs.Common.{◌≡◌, ℕ, zero, suc, ◌+◌, ◌-◌, ◌/◌, ◌%◌, ◌<◌, ◌≤◌, Bool, true, false, cond, ◌&&◌, ◌||◌, eqb, ltb, List, [], ◌∷◌, ◌++◌, length, get_or, set, sym, refl, ap, ◌∙◌, ap₂, true≢false, arith, length-set, get_or-set_other, get_or-set_same, ltb-false, ltb-true, le-ltb, lt-ltb, eq-eqb, ne_eqb, eqb-true}
-use borrow.Author.Tests.{eqb-false}
-use Rattle.strip.proofs.Tests.{and_left, and_right}
-use Rattle.spirv.specs.Writer.{Const, const, same, listed, place_of, with_new}
-use Rattle.spirv.specs.Page.{const_at, consts_from, consts_in, Lists, Placed}
+-- The list of constants in an array.
+use Rattle.std.proofs.Common.{◌≡◌, ℕ, suc, ◌+◌, ◌<◌, ◌≤◌, Bool, true, false, cond, not, ◌||◌, ltb, List, [], ◌∷◌, ◌++◌, map, length, take, set, Some, None, if◌then◌else◌, sym, refl, ap, ◌∙◌, true≢false, arith, ltb-false, ltb-true, le-ltb, lt-ltb, eq-eqb, length-take-le, take-suc-set}
+use mathlib.Core.List.{map-append}
+use Rattle.std.specs.Prelude.{Option}
+use Rattle.std.specs.List.{position_or_len}
+use Rattle.spirv.specs.declared.given.Constant.{Constant}
+use Rattle.spirv.specs.declared.given.Constant.TheVariants.{Word, True, False}
+use Rattle.spirv.specs.contracts.given.ConstantPartialEq.TheImpl.{ghosts}
+use Rattle.spirv.specs.Writer.{Const, same, listed, place_of, with_new}
+use Rattle.spirv.specs.Page.{constant}
 
--- keys are equal where the constants are
-same_key : (x y : ℕ) → same (const_at x) (const_at y) ≡ eqb x y
-same_key x y = go (eqb x y) refl
-  where
-    go : (b : Bool) → eqb x y ≡ b → same (const_at x) (const_at y) ≡ b
-    go true p = rw (eqb-true x y p, eq-eqb (y / 4294967296) (y / 4294967296) refl, eq-eqb (y % 4294967296) (y % 4294967296) refl)
-    go false p = differ (same (const_at x) (const_at y)) refl
-      where
-        differ : (b : Bool) → same (const_at x) (const_at y) ≡ b → b ≡ false
-        differ false q = refl
-        differ true q =
-            let high = eqb-true (x / 4294967296) (y / 4294967296) (and_left (eqb (x / 4294967296) (y / 4294967296)) _ q) in
-            let low = eqb-true (x % 4294967296) (y % 4294967296) (and_right (eqb (x / 4294967296) (y / 4294967296)) _ q) in
-            let is : x ≡ y = omega arith in
-            absurd (eqb-false x y p is)
-
-pub word_at : (w : ℕ) → w < 4294967296 → const_at (4294967296 + w) ≡ const 1 w
-word_at w l = ap₂ (λ (k b : ℕ). const k b) (omega arith) (omega arith)
-
--- ---- the place of a constant, from place i on
-module _ (keys : List ℕ) (n key : ℕ) where
-  abbrev pub place_from : ℕ → ℕ
-  place_from i = i + place_of (consts_from keys i (n - i)) (const_at key)
-
-  pub place-start : place_from 0 ≡ place_of (consts_in keys n) (const_at key)
-  place-start =
-      let m : n - 0 ≡ n = omega arith in
-      rw m (omega arith)
-
-  pub place_here : (i : ℕ) → i < n → get_or keys i 0 ≡ key → i ≡ place_from i
-  unfolding place_of consts_from
-  place_here i l p =
-      let m : n - i ≡ suc (n - suc i) = omega arith in
-      rw (m, same_key (get_or keys i 0) key, eq-eqb (get_or keys i 0) key p) (omega arith)
-
-  pub place-next : (i : ℕ) → i < n → (get_or keys i 0 ≡ key → ⊥) → place_from (i + 1) ≡ place_from i
-  unfolding place_of consts_from
-  place-next i l p =
-      let m : n - i ≡ suc (n - suc i) = omega arith in
-      let q : i + 1 ≡ suc i = omega arith in
-      rw (m, same_key (get_or keys i 0) key, ne_eqb (get_or keys i 0) key p, q) (omega arith)
-
-  pub place_end : (i : ℕ) → n ≤ i → i ≡ place_from i
-  unfolding place_of consts_from
-  place_end i l =
-      let m : n - i ≡ 0 = omega arith in
-      rw m (omega arith)
+-- constants are equal where the definition's are
+equal : (x y : Constant) → ghosts.eq x y ≡ same (constant x) (constant y)
+equal (Word w) (Word v) = refl
+equal (Word w) True = refl
+equal (Word w) False = refl
+equal True (Word v) = refl
+equal True True = refl
+equal True False = refl
+equal False (Word v) = refl
+equal False True = refl
+equal False False = refl
 
 -- ---- listed or not
 pub ltb-suc : (a b : ℕ) → ltb a b ≡ ltb (suc a) (suc b)
@@ -80,69 +48,61 @@ place-last (c ∷ ks) k h = go (same c k) h (place-last ks k)
     go true h ih = absurd (true≢false h)
     go false h ih = ap suc (ih h)
 
-pub consts-length : (keys : List ℕ) (n i : ℕ) → length (consts_from keys i n) ≡ n
-unfolding consts_from
-consts-length keys zero i = refl
-consts-length keys (suc n) i = ap suc (consts-length keys n (suc i))
+-- ---- the search for a constant
+pub length-constants : (xs : List Constant) → length (map constant xs) ≡ length xs
+length-constants [] = refl
+length-constants (x ∷ xs) = ap suc (length-constants xs)
 
-consts-set : (keys : List ℕ) (key n i j : ℕ) → i + n ≤ j → consts_from (set keys j key) i n ≡ consts_from keys i n
-unfolding consts_from
-consts-set keys key zero i j l = refl
-consts-set keys key (suc n) i j l =
-    ap₂ (λ (c : Const) (cs : List Const). c ∷ cs) (ap const_at (get_or-set_other keys j i key 0 (λ (e : i ≡ j). absurd (omega arith)))) (consts-set keys key n (suc i) j (omega arith))
+module _ (k : Constant) where
+  position-is : (xs : List Constant) → position_or_len (λ x. ghosts.eq x k) xs ≡ place_of (map constant xs) (constant k)
+  unfolding place_of
+  position-is [] = refl
+  position-is (x ∷ xs) = rw (equal x k) (go (same (constant x) (constant k)) (position-is xs))
+    where
+      go : (b : Bool) → position_or_len (λ x. ghosts.eq x k) xs ≡ place_of (map constant xs) (constant k)
+          → cond (not b) (1 + position_or_len (λ x. ghosts.eq x k) xs) 0 ≡ cond b 0 (suc (place_of (map constant xs) (constant k)))
+      go true h = refl
+      go false h = omega (arith, h)
 
-consts-snoc : (keys : List ℕ) (n i : ℕ) → consts_from keys i (suc n) ≡ consts_from keys i n ++ (const_at (get_or keys (i + n) 0) ∷ [])
-unfolding consts_from
-consts-snoc keys zero i = let z : i + 0 ≡ i = omega arith in rw z
-consts-snoc keys (suc n) i =
-    let z : suc i + n ≡ i + suc n = omega arith in
-    let ih : consts_from keys (suc i) (suc n) ≡ consts_from keys (suc i) n ++ (const_at (get_or keys (i + suc n) 0) ∷ []) = rw z at (consts-snoc keys n (suc i)) in
-    ap (λ (cs : List Const). const_at (get_or keys i 0) ∷ cs) ih
+  -- what the search answers
+  pub found : (xs : List Constant) (l : List Const) → map constant xs ≡ l
+      → (cond (ltb (position_or_len (λ x. ghosts.eq x k) xs) (length xs)) (Some (position_or_len (λ x. ghosts.eq x k) xs)) None) ≡ (if listed l (constant k) then Some (place_of l (constant k)) else None)
+  found xs l e = rw (← e, position-is xs, listed-place (map constant xs) (constant k), length-constants xs) refl
 
-module _ (keys : List ℕ) (n : ℕ) (full : length keys ≡ 64) where
-  -- nothing is new
-  pub listed-none : Lists keys n [] keys n × Placed keys n [] 0
+pub constants-length : (n : ℕ) (xs : List Constant) → n ≤ length xs → length (map constant (take n xs)) ≡ n
+constants-length n xs h = length-constants (take n xs) ∙ length-take-le n xs h
+
+-- ---- the list with a constant
+module _ (l : List Const) (k : Const) where
+  pub is-listed : (i : ℕ) → Some i ≡ (if listed l k then Some (place_of l k) else None) → (listed l k ≡ true) × (i ≡ place_of l k) × (i < length l)
+  is-listed i h = go (listed l k) refl h
+    where
+      go : (b : Bool) → listed l k ≡ b → Some i ≡ (if b then Some (place_of l k) else None) → (listed l k ≡ true) × (i ≡ place_of l k) × (i < length l)
+      go true p q =
+          let e : i ≡ place_of l k = cc in
+          (p, e, let m = ltb-true (place_of l k) (length l) (sym (listed-place l k) ∙ p) in omega (arith, e))
+      go false p q = let z : ◌≡◌ {A = ℕ} 0 1 = cc in absurd (omega arith)
+
+  pub not-listed : (o : Option ℕ) → o ≡ (if listed l k then Some (place_of l k) else None) → ((i : ℕ) → o ≡ Some i → ⊥) → listed l k ≡ false
+  not-listed o h n = go (listed l k) refl h
+    where
+      go : (b : Bool) → listed l k ≡ b → o ≡ (if b then Some (place_of l k) else None) → listed l k ≡ false
+      go true p q = absurd (n (place_of l k) q)
+      go false p q = p
+
+  pub list-stays : listed l k ≡ true → l ≡ with_new l (k ∷ [])
   unfolding with_new
-  listed-none = (record { list = refl; most = omega arith; kept = full }, (omega arith, tt))
+  list-stays h = rw h
 
-  module _ (key : ℕ) where
-    pub listed-stays : (i : ℕ) → i ≡ place_of (consts_in keys n) (const_at key) → i < n → Lists keys n (const_at key ∷ []) keys n × Placed keys n (const_at key ∷ []) i
-    unfolding with_new
-    listed-stays i is l =
-        let m = consts-length keys n 0 in
-        let h : listed (consts_in keys n) (const_at key) ≡ true = listed-place (consts_in keys n) (const_at key) ∙ lt-ltb (place_of (consts_in keys n) (const_at key)) (length (consts_in keys n)) (omega arith) in
-        (record { list = rw h; most = omega arith; kept = full }, (omega arith, (is, tt)))
+  grown : listed l k ≡ false → with_new l (k ∷ []) ≡ l ++ (k ∷ [])
+  unfolding with_new
+  grown h = rw h
 
-    -- a new one stands last
-    grown : n < 64 → consts_in (set keys n key) (n + 1) ≡ consts_in keys n ++ (const_at key ∷ [])
-    grown r =
-        let zero-on : 0 + n ≡ n = omega arith in
-        let new : const_at (get_or (set keys n key) (0 + n) 0) ≡ const_at key = rw zero-on (ap const_at (get_or-set_same keys n key 0 (omega arith))) in
-        let up : n + 1 ≡ suc n = omega arith in
-        rw up (consts-snoc (set keys n key) n 0 ∙ ap₂ (λ (cs : List Const) (c : Const). cs ++ (c ∷ [])) (consts-set keys key n 0 n (omega arith)) new)
+  pub grown-place : listed l k ≡ false → length l ≡ place_of (with_new l (k ∷ [])) k
+  grown-place h = rw (grown h) (sym (place-last l k h))
 
-    pub listed-grows : n < 64 → n ≤ place_of (consts_in keys n) (const_at key) → Lists keys n (const_at key ∷ []) (set keys n key) (n + 1) × Placed (set keys n key) (n + 1) (const_at key ∷ []) n
-    unfolding with_new
-    listed-grows r l =
-        let m = consts-length keys n 0 in
-        let h : listed (consts_in keys n) (const_at key) ≡ false = listed-place (consts_in keys n) (const_at key) ∙ le-ltb (place_of (consts_in keys n) (const_at key)) (length (consts_in keys n)) (omega arith) in (
-          record { list = rw h (grown r); most = omega arith; kept = length-set keys n key ∙ full },
-          (omega arith, (sym m ∙ sym (place-last (consts_in keys n) (const_at key) h) ∙ ap (λ (ks : List Const). place_of ks (const_at key)) (sym (grown r)), tt)),
-        )
-
--- ---- the constant 0
-module _ (keys : List ℕ) (n bound id i : ℕ) (is : i ≡ place_of (consts_in keys n) (const 1 0)) where
-  abbrev zero-id : Bool
-  zero-id = listed (consts_in keys n) (const 1 0) && eqb id (bound + place_of (consts_in keys n) (const 1 0))
-
-  pub zero-listed : i < n → eqb id (bound + i) ≡ zero-id
-  zero-listed l =
-      let m = consts-length keys n 0 in
-      let h : listed (consts_in keys n) (const 1 0) ≡ true = listed-place (consts_in keys n) (const 1 0) ∙ lt-ltb (place_of (consts_in keys n) (const 1 0)) (length (consts_in keys n)) (omega (arith, is)) in
-      rw h (ap (λ (j : ℕ). eqb id (bound + j)) is)
-
-  pub zero-absent : n ≤ i → false ≡ zero-id
-  zero-absent l =
-      let m = consts-length keys n 0 in
-      let h : listed (consts_in keys n) (const 1 0) ≡ false = listed-place (consts_in keys n) (const 1 0) ∙ le-ltb (place_of (consts_in keys n) (const 1 0)) (length (consts_in keys n)) (omega (arith, is)) in
-      rw h
+-- a new one stands last
+pub list-grows : (xs : List Constant) (n : ℕ) (k : Constant) → n < length xs → listed (map constant (take n xs)) (constant k) ≡ false → map constant (take (n + 1) (set xs n k)) ≡ with_new (map constant (take n xs)) (constant k ∷ [])
+list-grows xs n k r h =
+    let up : n + 1 ≡ suc n = omega arith in
+    rw up (ap (map constant) (take-suc-set xs n k r) ∙ map-append constant (take n xs) (k ∷ []) ∙ sym (grown (map constant (take n xs)) (constant k) h))

@@ -14,7 +14,8 @@ use Rattle.spirv.specs.declared.opcodes.Op.TheVariants.{Core, Glsl}
 use Rattle.spirv.specs.declared.plan.Name.{Name}
 use Rattle.spirv.specs.Opcodes.{op_of}
 use Rattle.spirv.specs.Writer.{Const, const, same, const_of, listed, place_of, with_new, constants_from, Given, given, lent, type_id, const_id, name, name_at, Plan, Silent, Known, Made, Stores, Opens, Closes, planned, operation, casting, plan_of, Midway, after, stepped, clashes}
-use Rattle.spirv.specs.Page.{look_of, Page, wrote, clashed, entered}
+use Rattle.spirv.specs.declared.page.Page.{Page}
+use Rattle.spirv.specs.Page.{look_of, wrote, clashed, entered}
 use Rattle.spirv.proofs.Keys.{keys, kinds_of, kind-among}
 use Rattle.spirv.proofs.Listed.{ltb-suc, listed-place}
 use Rattle.spirv.proofs.Entries.{Fair}
@@ -192,7 +193,7 @@ module _ (table : List ℕ) (bound from : ℕ) where
     abbrev all_known : Given
     all_known = given table bound full
 
-    entered-same : (g h : Given) (p : Page) (e : Entry) → plan_of g (look_of p.ids p.signs) e ≡ plan_of h (look_of p.ids p.signs) e → clashes g (look_of p.ids p.signs) e ≡ clashes h (look_of p.ids p.signs) e → entered g p e ≡ entered h p e
+    entered-same : (g h : Given) (p : Page) (e : Entry) → plan_of g (look_of p.names) e ≡ plan_of h (look_of p.names) e → clashes g (look_of p.names) e ≡ clashes h (look_of p.names) e → entered g p e ≡ entered h p e
     unfolding entered
     entered-same g h p e a b = ap₂ (λ (x : Bool) (z : Plan). clashed x (wrote p z)) b a
 
@@ -200,14 +201,14 @@ module _ (table : List ℕ) (bound from : ℕ) where
     told-plan l r is before look w e f c h = rw is (plan-told l r before look w e (rw is at f) c h)
 
     -- the zero of an address is a word
-    zero-told : (l l' : List Const) → length l ≤ length l' → (before : List ℕ) (m : Midway) (p : Page) (e : Entry) → Fair all_known before e → Wordy l before m.names → Same (look_of p.ids p.signs) (name_at m.names) (refs_of e)
-        → (a b c d : ℕ) → e ≡ Of.Four 11 a b c d → Told l' (look_of p.ids p.signs b).id
+    zero-told : (l l' : List Const) → length l ≤ length l' → (before : List ℕ) (m : Midway) (p : Page) (e : Entry) → Fair all_known before e → Wordy l before m.names → Same (look_of p.names) (name_at m.names) (refs_of e)
+        → (a b c d : ℕ) → e ≡ Of.Four 11 a b c d → Told l' (look_of p.names b).id
     unfolding refs_of kind_of format_of refs_pass
     zero-told l l' n before m p e f w refs a b c d is =
-        let same-refs : Same (look_of p.ids p.signs) (name_at m.names) (a ∷ b ∷ c ∷ d ∷ []) = rw is at refs in
+        let same-refs : Same (look_of p.names) (name_at m.names) (a ∷ b ∷ c ∷ d ∷ []) = rw is at refs in
         let pass : refs_pass (names before) (3 ∷ 1 ∷ 1 ∷ 1 ∷ []) (a ∷ b ∷ c ∷ d ∷ []) ≡ true = rw is at f.refs in
         let word : names before 1 b ≡ true = and_left (names before 1 b) _ (and_right (names before 3 a) _ pass) in
-        told_more l l' (look_of p.ids p.signs b).id n (told_same l (look_of p.ids p.signs b).id (name_at m.names b).id (ap (λ (x : Name). x.id) same-refs.1.0) (w b word))
+        told_more l l' (look_of p.names b).id n (told_same l (look_of p.names b).id (name_at m.names b).id (ap (λ (x : Name). x.id) same-refs.1.0) (w b word))
 
     pub part-is : (es : List Entry) (l : List Const) (before : List ℕ) (m : Midway) (p : Page) → Like m p → FairFrom all_known cs before es → constants_from l es ≡ full → length m.names ≡ length before → length m.names + length es ≤ 64
         → m.next + 2 * length es < 2 ^ 64 → from ≤ m.next → Wordy l before m.names → entered_part table bound l p es ≡ entered_all all_known p es
@@ -220,7 +221,7 @@ module _ (table : List ℕ) (bound from : ℕ) where
         let b = grown-all es l' in
         let is : full ≡ l' ++ b.0 = sym c ∙ b.1 in
         let refs = refs-same all_known before m p k len e f.0 in
-        let look : ℕ → Name = look_of p.ids p.signs in
+        let look : ℕ → Name = look_of p.names in
         let few-fits : bound + length (l' ++ b.0) ≤ from = rw is at fits in
         let plan : plan_of (given table bound l') look e ≡ plan_of all_known look e = plan-few table bound l' b.0 look e (new-listed l e) ∙ ap (λ (x : List Const). plan_of (given table bound x) look e) (sym is) in
         let bad : clashes (given table bound l') look e ≡ clashes all_known look e = clash-few table bound l' b.0 look from few-fits e (zero-told l l' longer before m p e f.0 w refs) ∙ ap (λ (x : List Const). clashes (given table bound x) look e) (sym is) in

@@ -1,6 +1,7 @@
 -- How each entry is written, by the tests that the code makes.
-use Rattle.std.proofs.Common.{◌≡◌, ℕ, ◌+◌, Bool, true, false, cond, not, ◌&&◌, eqb, ltb, [], ◌∷◌, refl, true≢false}
-use mathlib.Core.Bool.{xor, false≢true}
+use Rattle.std.proofs.Common.{◌≡◌, ℕ, ◌+◌, ◌<◌, ◌≤◌, Bool, true, false, cond, not, ◌&&◌, eqb, ltb, [], ◌∷◌, refl, true≢false, arith, eqb-true}
+use mathlib.Core.Bool.{beq, xor, false≢true}
+use borrow.Author.Tests.{eqb-false}
 use Rattle.strip.specs.declared.format.Body.{Body}
 use Rattle.strip.specs.declared.reader.Entry.TheVariants as Of
 use Rattle.strip.specs.Format.{format_of}
@@ -8,8 +9,9 @@ use Rattle.strip.specs.Entry.{body_of}
 use Rattle.strip.proofs.Table.{body_number}
 use Rattle.spirv.specs.declared.plan.Name.{Name}
 use Rattle.spirv.specs.Opcodes.{op_of}
-use Rattle.spirv.specs.Writer.{const, const_id, listed, Given, lent, name, Plan, Silent, Known, Made, Stores, Opens, Closes, planned, first_sign, sign_of, operation, casting, plan_of, clashes}
-use Rattle.spirv.specs.Page.{Page, look_of, wrote, clashed, entered}
+use Rattle.spirv.specs.Writer.{const, const_id, listed, cells_at, Given, lent, name, Plan, Silent, Known, Made, Opens, Closes, planned, first_sign, sign_of, operation, casting, plan_of, clashes}
+use Rattle.spirv.specs.declared.page.Page.{Page}
+use Rattle.spirv.specs.Page.{look_of, wrote, clashed, entered}
 use Rattle.spirv.proofs.Keys.{keys, kinds_of, kind-among}
 
 module _ (g : Given) (look : ℕ → Name) where
@@ -88,6 +90,25 @@ module _ (g : Given) (look : ℕ → Name) where
   unfolding plan_of casting xor
   plan-unsigned k a p q = rw (p, q)
 
+  -- a cast, to the type that the word has or to the other one
+  pub plan-same : (k a : ℕ) → 23 ≤ k → k < 25 → beq (look a).signed (eqb k 23) ≡ true → plan_of g look (Of.One k a) ≡ Known (name (look a).id (eqb k 23))
+  plan-same k a l m h = go (eqb k 23) refl (look a).signed refl h
+    where
+      go : (b : Bool) → eqb k 23 ≡ b → (s : Bool) → (look a).signed ≡ s → beq s b ≡ true → plan_of g look (Of.One k a) ≡ Known (name (look a).id b)
+      go true p true q h = plan-signed k a (eqb-true k 23 p) q
+      go true p false q h = absurd (false≢true h)
+      go false p true q h = absurd (false≢true h)
+      go false p false q h = let n = eqb-false k 23 p in plan-unsigned k a (omega (arith, n)) q
+
+  pub plan-other : (k a : ℕ) → 23 ≤ k → k < 25 → beq (look a).signed (eqb k 23) ≡ false → plan_of g look (Of.One k a) ≡ Made 124 (typed (eqb k 23)) ((look a).id ∷ []) (eqb k 23)
+  plan-other k a l m h = go (eqb k 23) refl (look a).signed refl h
+    where
+      go : (b : Bool) → eqb k 23 ≡ b → (s : Bool) → (look a).signed ≡ s → beq s b ≡ false → plan_of g look (Of.One k a) ≡ Made 124 (typed b) ((look a).id ∷ []) b
+      go true p true q h = absurd (true≢false h)
+      go true p false q h = plan-cast-i k a (eqb-true k 23 p) q
+      go false p true q h = let n = eqb-false k 23 p in plan-cast-u k a (omega (arith, n)) q
+      go false p false q h = absurd (true≢false h)
+
   abbrev UnaryOf : ℕ → ℕ → Type 0
   UnaryOf a k = (eqb k 12 ≡ false) × (eqb k 80 ≡ false) × (eqb k 100 ≡ false) × (eqb k 23 ≡ false) × (eqb k 24 ≡ false) → plan_of g look (Of.One k a) ≡ planned (lent g 4) (op_of k) (typed (look a).signed) ((look a).id ∷ []) (look a).signed
 
@@ -104,24 +125,12 @@ module _ (g : Given) (look : ℕ → Name) where
   unfolding plan_of
   plan-note k n p = rw p
 
-  pub plan-register : (k n : ℕ) → k ≡ 4 → plan_of g look (Of.Cell k n) ≡ Made 61 (lent g 0) (lent g (5 + n) ∷ []) false
-  unfolding plan_of format_of
-  plan-register k n p = rw p
+  abbrev LoadOf : ℕ → ℕ → Type 0
+  LoadOf n k = eqb k 10 ≡ false → eqb k 110 ≡ false → plan_of g look (Of.Cell k n) ≡ Made 61 (lent g (cond (eqb k 4) 0 2)) (lent g (cells_at k + n) ∷ []) false
 
-  pub plan-predicate : (k n : ℕ) → k ≡ 5 → plan_of g look (Of.Cell k n) ≡ Made 61 (lent g 2) (lent g (260 + n) ∷ []) false
-  unfolding plan_of format_of
-  plan-predicate k n p = rw p
-
-  abbrev FlagOf : ℕ → ℕ → Type 0
-  FlagOf n k = (eqb k 4 ≡ false) × (eqb k 10 ≡ false) × (eqb k 110 ≡ false) × (eqb k 5 ≡ false) → plan_of g look (Of.Cell k n) ≡ Made 61 (lent g 2) (lent g (267 + n) ∷ []) false
-
-  pub plan-flag : (k n : ℕ) → (format_of k).body ≡ Body.Cell → FlagOf n k
+  pub plan-load : (k n : ℕ) → (format_of k).body ≡ Body.Cell → LoadOf n k
   unfolding plan_of format_of body_of body_number
-  plan-flag k n body = keys (FlagOf n) (kinds_of 3) k (kind-among k (Of.Cell k n) body) ((λ h. absurd (true≢false h.0)), ((λ h. absurd (true≢false h.3)), ((λ h. refl), ((λ h. absurd (true≢false h.1)), ((λ h. absurd (true≢false h.2)), tt)))))
-
-  pub plan-store : (k n r : ℕ) → (format_of k).body ≡ Body.Store → plan_of g look (Of.Store k n r) ≡ Stores (lent g (cond (eqb k 7) 5 (cond (eqb k 8) 260 267) + n)) (look r).id
-  unfolding plan_of body_of body_number
-  plan-store k n r body = keys (λ (k : ℕ). plan_of g look (Of.Store k n r) ≡ Stores (lent g (cond (eqb k 7) 5 (cond (eqb k 8) 260 267) + n)) (look r).id) (kinds_of 4) k (kind-among k (Of.Store k n r) body) (refl, (refl, (refl, tt)))
+  plan-load k n body = keys (LoadOf n) (kinds_of 3) k (kind-among k (Of.Cell k n) body) ((λ p q. refl), ((λ p q. refl), ((λ p q. refl), ((λ p q. absurd (true≢false p)), ((λ p q. absurd (true≢false q)), tt)))))
 
   pub plan-true : (k : ℕ) → k ≡ 2 → plan_of g look (Of.Bare k) ≡ Known (name (const_id g (const 2 0)) false)
   unfolding plan_of
@@ -140,22 +149,17 @@ module _ (g : Given) (look : ℕ → Name) where
   plan-end k p q r = rw (p, q, r)
 
 -- ---- signs that differ
-pub differ-signed : (a b : Bool) → a ≡ true → not b ≡ xor a b
+pub differ : (a b : Bool) → not (beq a b) ≡ xor a b
 unfolding xor
-differ-signed true true p = refl
-differ-signed true false p = refl
-differ-signed false b p = absurd (false≢true p)
-
-pub differ-unsigned : (a b : Bool) → a ≡ false → b ≡ xor a b
-unfolding xor
-differ-unsigned false true p = refl
-differ-unsigned false false p = refl
-differ-unsigned true b p = absurd (true≢false p)
+differ true true = refl
+differ true false = refl
+differ false true = refl
+differ false false = refl
 
 -- ---- an entry on the page, from its plan
 module _ (g : Given) (p : Page) (plan : Plan) where
   abbrev look : ℕ → Name
-  look = look_of p.ids p.signs
+  look = look_of p.names
 
   pub bare-entered : (k : ℕ) → plan_of g look (Of.Bare k) ≡ plan → wrote p plan ≡ entered g p (Of.Bare k)
   unfolding entered clashes clashed

@@ -1,9 +1,9 @@
 -- The entries of a strip are refused with 8 and 9 alone.
+use Rattle.std.specs.Prelude.{Ok, Err}
+use Rattle.evaluation.specs.Machine.{Outcome}
 use Rattle.std.proofs.Common.{ℕ, eqb, List, [], ◌∷◌, length}
 use Rattle.strip.specs.declared.reader.Entry.{Entry}
 use Rattle.strip.specs.declared.reader.Entry.TheVariants as Of
-use Rattle.evaluation.specs.declared.machine.Outcome.{Outcome}
-use Rattle.evaluation.specs.declared.machine.Outcome.TheVariants.{Done, Refused}
 use Rattle.evaluation.specs.declared.machine.Refusal.TheVariants.{BadShape, UndefinedValue, NoConstant}
 use Rattle.evaluation.specs.declared.machine.Evaluated.{Evaluated}
 use Rattle.evaluation.specs.Machine.{Effect, Push, SetReg, SetPred, SetFlag, Enter, Pass, Finish, Refuse, storing, storing_word, storing_truth, entering, bare_effect, cell_effect, one_effect, four_effect, effect_of, muted, taken_effect, outcome_of, applied, is_done, entries_from}
@@ -12,10 +12,10 @@ use Rattle.evaluation.proofs.Laws.{cond-all, with-word, with-truth, address-case
 
 -- an outcome of entries
 abbrev pub Met : Outcome → Type 0
-Met Done = Unit {0}
-Met (Refused BadShape) = ⊥
-Met (Refused UndefinedValue) = Unit {0}
-Met (Refused (NoConstant slot vec comp)) = Unit {0}
+Met (Ok u) = Unit {0}
+Met (Err BadShape) = ⊥
+Met (Err UndefinedValue) = Unit {0}
+Met (Err (NoConstant slot vec comp)) = Unit {0}
 
 abbrev pub Meets : Effect → Type 0
 Meets f = Met (outcome_of f)

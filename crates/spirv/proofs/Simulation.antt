@@ -1,4 +1,5 @@
 -- A strip's body and its entries go side by side.
+use Rattle.std.specs.Prelude.{Ok}
 use Rattle.std.proofs.Common.{◌≡◌, ℕ, suc, ◌+◌, ◌<◌, ◌≤◌, Bool, true, false, cond, not, ◌&&◌, eqb, ltb, List, [], ◌∷◌, ◌++◌, length, sym, refl, ap, ◌∙◌, subst, append-nil, arith, ltb-true, lt-ltb, eq-eqb, ne_eqb, eqb-true}
 use mathlib.Core.Bool.{false≢true}
 use Rattle.strip.specs.declared.reader.Entry.{Entry}
@@ -10,7 +11,6 @@ use Rattle.strip.proofs.Tests.{and_left, and_right}
 use Rattle.evaluation.specs.declared.value.Value.{Value}
 use Rattle.evaluation.specs.declared.value.Value.TheVariants.{Undefined, Word, Truth, Slot, Address}
 use Rattle.evaluation.specs.declared.state.State.{State}
-use Rattle.evaluation.specs.declared.machine.Outcome.TheVariants.{Done}
 use Rattle.evaluation.specs.declared.machine.Refusal.TheVariants.{BadShape, UndefinedValue, NoConstant}
 use Rattle.evaluation.specs.Value.{with_truth}
 use Rattle.evaluation.specs.State.{stored_reg, stored_pred, stored_flag}
@@ -110,11 +110,11 @@ module _ (g : Given) (cs : List ℕ) where
   unfolding read_from body_from plan_of instrs_by
   end_reads s env w e p = rw p
 
-  end-evaluates : (m : Eval.Midway) (e : Entry) → e ≡ Of.Bare 255 → entries_from cs m (e ∷ []) ≡ ends Done m.state
+  end-evaluates : (m : Eval.Midway) (e : Entry) → e ≡ Of.Bare 255 → entries_from cs m (e ∷ []) ≡ ends (Ok tt) m.state
   unfolding entries_from taken_effect effect_of bare_effect muted outcome_of applied begun
   end-evaluates m e p = rw p (go m.skip)
     where
-      go : (b : Bool) → cond (is_done (outcome_of (cond b (muted Finish) Finish))) (ends Done (applied m (cond b (muted Finish) Finish)).state) (ends (outcome_of (cond b (muted Finish) Finish)) m.state) ≡ ends Done m.state
+      go : (b : Bool) → cond (is_done (outcome_of (cond b (muted Finish) Finish))) (ends (Ok tt) (applied m (cond b (muted Finish) Finish)).state) (ends (outcome_of (cond b (muted Finish) Finish)) m.state) ≡ ends (Ok tt) m.state
       go true = refl
       go false = refl
 
@@ -159,15 +159,15 @@ module _ (g : Given) (cs : List ℕ) where
   unfolding entries_from taken_effect outcome_of applied
   pass-by s vs e es h = rw (muted-is (past s vs) e cs, finishes-end e h)
 
-  skip : (s : State) (vs : List Value) (es : List Entry) (before : List ℕ) → FairFrom before es → blocks true es ≡ true → entries_from cs (past s vs) es ≡ ends Done s
+  skip : (s : State) (vs : List Value) (es : List Entry) (before : List ℕ) → FairFrom before es → blocks true es ≡ true → entries_from cs (past s vs) es ≡ ends (Ok tt) s
   unfolding blocks
   skip s vs [] before f h = absurd (false≢true h)
   skip s vs (e ∷ es) before f h = go (skip s vs es (before ++ makes e) f.1) (is_open e) refl (is_close e) refl (is_end e) refl h
     where
-      go : (blocks true es ≡ true → entries_from cs (past s vs) es ≡ ends Done s)
+      go : (blocks true es ≡ true → entries_from cs (past s vs) es ≡ ends (Ok tt) s)
           → (x : Bool) → is_open e ≡ x → (y : Bool) → is_close e ≡ y → (z : Bool) → is_end e ≡ z
           → cond x (false && blocks true es) (cond y (true && end_alone es) (cond z (false && nothing_left es) (blocks true es))) ≡ true
-          → entries_from cs (past s vs) (e ∷ es) ≡ ends Done s
+          → entries_from cs (past s vs) (e ∷ es) ≡ ends (Ok tt) s
       go ih true x y q z r h = absurd (false≢true h)
       go ih false x true q z r h =
           let n = end_of (before ++ makes e) es f.1 h in

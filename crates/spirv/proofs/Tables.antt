@@ -31,10 +31,6 @@ module _ (bound : ℕ) where
   abbrev pub sound : List ℕ → Bool
   sound xs = all (lent_ok bound) xs && distinct xs
 
-  bad-head : (a b c d : Bool) → a ≡ false → (a && b) && (c && d) ≡ false
-  bad-head false b c d p = refl
-  bad-head true b c d p = absurd (true≢false p)
-
   bad-twice : (a b c d : Bool) → c ≡ false → (a && b) && (c && d) ≡ false
   bad-twice a b true d p = absurd (true≢false p)
   bad-twice true true false d p = refl
@@ -47,10 +43,6 @@ module _ (bound : ℕ) where
   good-head true b false d p q = absurd (false≢true q)
 
   module _ (xs : List ℕ) (i : ℕ) (l : i < length xs) where
-    pub sound-bad : lent_ok bound (get_or xs i 0) ≡ false → false ≡ sound (drop i xs)
-    unfolding distinct
-    sound-bad p = rw (drop_at xs i l) (sym (bad-head (lent_ok bound (get_or xs i 0)) (all (lent_ok bound) (drop (i + 1) xs)) (not (among (drop (i + 1) xs) (get_or xs i 0))) (distinct (drop (i + 1) xs)) p))
-
     pub sound-twice : among (drop (i + 1) xs) (get_or xs i 0) ≡ true → false ≡ sound (drop i xs)
     unfolding distinct
     sound-twice p =
@@ -141,9 +133,6 @@ module _ (xs : List ℕ) where
     pub begun-back : (heads links : List ℕ) (i : ℕ) → 0 < i → Begun heads links i → Begun heads links (i - 1 + 1)
     begun-back heads links i l b = let e : i ≡ i - 1 + 1 = omega arith in subst (Begun heads links) e b
 
-    pub begun-walks : (heads links : List ℕ) (i x h : ℕ) → h ≡ bucket_of x → h < 1024 → Begun heads links i → Walks x i (get_or heads h 0)
-    begun-walks heads links i x h e l b = let d = b.first h l in record { up = d.up; same = λ k. d.same k ∙ e; rest = d.rest x (sym e) }
-
     module _ (size : length xs ≡ 303) (heads links : List ℕ) (i h : ℕ) (e : h ≡ bucket_of (get_or xs i 0)) (l : h < 1024) (m : i < 303) (b : Begun heads links (i + 1)) where
       first_next : (g : ℕ) → g < 1024 → Leads g i (get_or (set heads h i) g 0)
       first_next g k = go (eqb g h) refl
@@ -197,6 +186,9 @@ module _ (xs : List ℕ) where
     where
       small : (a x e : ℕ) → (e + x) % 4294967296 ≡ a → e < 4294967296 → x < 4294967296 → a ≤ 1270874112 → 4290772992 ≤ e → (a < x) × (x ≤ a + 4194304)
       small a x e q we wx l h = (omega arith, omega arith)
+
+  pub wrapped-back : (a x : ℕ) → a < 4294967296 → x < 4294967296 → ((a + (4294967296 - x)) % 4294967296 + x) % 4294967296 ≡ a
+  wrapped-back a x l m = omega arith
 
   pub rises-end : (last high i : ℕ) → length xs ≤ i → 4290772992 ≤ high → Rises last high i → rising 0 xs ≡ true
   unfolding rising

@@ -1,4 +1,6 @@
 -- #105's theorem: reading the words of a strip ends as its evaluation does.
+use Rattle.std.specs.Prelude.{Ok, Err}
+use Rattle.evaluation.specs.Machine.{Outcome}
 use Rattle.std.proofs.Common.{◌≡◌, ℕ, suc, ◌+◌, ◌<◌, Bool, true, false, cond, ◌&&◌, ◌||◌, eqb, ltb, List, [], ◌∷◌, ◌++◌, length, refl, ap, ◌∙◌, arith, ltb-true}
 use mathlib.Core.Option.{Option}
 use mathlib.Core.Bool.{xor, false≢true}
@@ -9,8 +11,6 @@ use Rattle.strip.specs.Shape.{strip_ok}
 use Rattle.strip.proofs.Tests.{and_left, and_right}
 use Rattle.strip.proofs.Run.{at-most-64}
 use Rattle.evaluation.specs.declared.state.State.{State}
-use Rattle.evaluation.specs.declared.machine.Outcome.{Outcome}
-use Rattle.evaluation.specs.declared.machine.Outcome.TheVariants.{Done, Refused}
 use Rattle.evaluation.specs.declared.machine.Refusal.TheVariants.{BadShape, UndefinedValue, NoConstant}
 use Rattle.evaluation.specs.declared.machine.Evaluated.{Evaluated}
 use Rattle.evaluation.specs.Machine.{begun, ends, onward, entries_from, restored}
@@ -125,14 +125,14 @@ module _ (table : List ℕ) (bound : ℕ) (es : List Entry) (s : State) (cs : Li
 -- ---- one strip, as bytes
 
 -- from entries to the evaluation of a run of one strip
-pub one-strip : (s : State) (r : Evaluated) (a : Answer) (here : List Instr) → Met r.outcome → Agree a r here → EndsAs a (restored s (onward r (λ t. ends Done t)))
+pub one-strip : (s : State) (r : Evaluated) (a : Answer) (here : List Instr) → Met r.outcome → Agree a r here → EndsAs a (restored s (onward r (λ t. ends (Ok tt) t)))
 one-strip s r a here k h = go r.outcome refl k h
   where
-    go : (o : Outcome) → r.outcome ≡ o → Met o → AgreeOn o r.state here a → EndsAs a (restored s (onward r (λ t. ends Done t)))
-    go Done p k h = rw p h
-    go (Refused BadShape) p k h = absurd k
-    go (Refused UndefinedValue) p k h = rw p (r.state, here, h)
-    go (Refused (NoConstant slot vec comp)) p k h = rw p (r.state, here, h)
+    go : (o : Outcome) → r.outcome ≡ o → Met o → AgreeOn o r.state here a → EndsAs a (restored s (onward r (λ t. ends (Ok tt) t)))
+    go (Ok u) p k h = rw p h
+    go (Err BadShape) p k h = absurd k
+    go (Err UndefinedValue) p k h = rw p (r.state, here, h)
+    go (Err (NoConstant slot vec comp)) p k h = rw p (r.state, here, h)
 
 -- what was accepted
 unfoldable pub accepts : Written → Bool

@@ -1,11 +1,11 @@
 -- What #105 says of the words: reading them ends as evaluation does where 9 isn't met, 8 standing for an undefined value at the same store, branch
 -- or address.
+use Rattle.std.specs.Prelude.{Ok, Err}
+use Rattle.evaluation.specs.Machine.{Outcome}
 use Rattle.std.specs.Prelude.{◌≡◌, ℕ, cond, List, [], ◌∷◌}
 use Rattle.strip.specs.declared.reader.Entry.{Entry}
 use Rattle.strip.specs.Shape.{is_open}
 use Rattle.evaluation.specs.declared.state.State.{State}
-use Rattle.evaluation.specs.declared.machine.Outcome.{Outcome}
-use Rattle.evaluation.specs.declared.machine.Outcome.TheVariants.{Done, Refused}
 use Rattle.evaluation.specs.declared.machine.Refusal.TheVariants.{BadShape, UndefinedValue, NoConstant}
 use Rattle.evaluation.specs.declared.machine.Evaluated.{Evaluated}
 use Rattle.evaluation.specs.Machine.{is_done, outcome_of, taken_effect, applied, begun}
@@ -31,20 +31,20 @@ stop_of g cs w m (e ∷ es) =
 -- The reading's answer beside the outcome and state of an evaluation that is refused, if it is, at the entry of the instructions `here`. Entries are
 -- refused with 8 and 9 alone.
 abbrev pub AgreeOn : Outcome → State → List Instr → Answer → Type 0
-AgreeOn Done s here a = a ≡ Ended s
-AgreeOn (Refused BadShape) s here a = ⊥
-AgreeOn (Refused UndefinedValue) s here a = a ≡ Stopped s here
-AgreeOn (Refused (NoConstant slot vec comp)) s here a = a ≡ Lacking s here slot vec comp
+AgreeOn (Ok u) s here a = a ≡ Ended s
+AgreeOn (Err BadShape) s here a = ⊥
+AgreeOn (Err UndefinedValue) s here a = a ≡ Stopped s here
+AgreeOn (Err (NoConstant slot vec comp)) s here a = a ≡ Lacking s here slot vec comp
 
 abbrev pub Agree : Answer → Evaluated → List Instr → Type 0
 Agree a r here = AgreeOn r.outcome r.state here a
 
 -- and beside an evaluation that hands the starting state back where it is refused
 abbrev pub EndsOn : Outcome → State → Answer → Type 0
-EndsOn Done s a = a ≡ Ended s
-EndsOn (Refused BadShape) s a = ⊥
-EndsOn (Refused UndefinedValue) s a = (t : State) × (here : List Instr) × (a ≡ Stopped t here)
-EndsOn (Refused (NoConstant slot vec comp)) s a = (t : State) × (here : List Instr) × (a ≡ Lacking t here slot vec comp)
+EndsOn (Ok u) s a = a ≡ Ended s
+EndsOn (Err BadShape) s a = ⊥
+EndsOn (Err UndefinedValue) s a = (t : State) × (here : List Instr) × (a ≡ Stopped t here)
+EndsOn (Err (NoConstant slot vec comp)) s a = (t : State) × (here : List Instr) × (a ≡ Lacking t here slot vec comp)
 
 abbrev pub EndsAs : Answer → Evaluated → Type 0
 EndsAs a r = EndsOn r.outcome r.state a

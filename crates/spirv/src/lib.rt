@@ -3,13 +3,13 @@
 
 mod answer;
 mod body;
-mod listing;
+mod given;
 mod opcodes;
+mod page;
 mod pass;
-mod pen;
 mod plan;
 mod table;
 
-pub use answer::{Outcome, to_spirv};
+pub use answer::{Refusal, Words, to_spirv};
 pub use opcodes::Op;
 pub use plan::Name;

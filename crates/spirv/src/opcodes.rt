@@ -10,6 +10,7 @@ pub enum Op {
 }
 
 // Called from two places and therefore not built in, on purpose: built in it made the writer slower (docs/DECISIONS.md).
+#[tactic(auto, unfolding(crate::specs::Opcodes::op_of))]
 pub fn op_of(k: u8) -> Op
     ensures { result ≡ op_of k }
 {

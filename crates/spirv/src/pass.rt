@@ -1,76 +1,37 @@
 // The pass over the bytes, entry by entry: it tests their shape, lists the constants and writes the words. The ids of the body begin after the constants',
-// and how many these are is known at the end alone: till then they are counted from 2 ^ 40 + 2 ^ 31 on (`first_id`), which is above all others.
-ghost use Rattle.std.specs.Prelude.{◌≡◌, true, [], length};
-ghost use Rattle.strip.specs.Entry.{wide, reads_from};
-ghost use Rattle.spirv.specs.Page.{Surveys, begin, page, entered_part_from};
+// and how many these are is known at the end alone: till then they are counted from 2 ^ 40 + 2 ^ 31 on (`FIRST_ID`), which is above all others.
+ghost use Rattle.std.specs.Prelude.{◌≡◌, []};
+ghost use Rattle.spirv.specs.Page.{Passes};
 
-use crate::body::write_entry;
-use crate::listing::list_entry;
-use crate::pen::Pen;
-use strip::{Layout, Read, Shape};
+use crate::answer::Refusal;
+use crate::given::Given;
+use crate::page::Page;
+use strip::{Layout, Shape};
 
-// Whether the bytes are one strip in order, the number of its constants, and the pen after its words.
-#[derive(Clone, Copy)]
-pub struct Passed {
-    pub whole: bool,
-    pub constants: usize,
-    pub pen: Pen,
-}
-
-pub fn pass(
-    run: &[u8],
-    ids: &mut [u64; 64],
-    signs: &mut [bool; 64],
-    buf: &mut [u32; 512],
-    table: &[u32],
-    bound: u32,
-    keys: &mut [u64; 64],
-) -> Passed
-    requires { length keys.old ≡ 64 }
-    ensures { Surveys run.now result.whole result.constants keys.new × (result.whole ≡ true → page result.pen ids.new signs.new buf.new ≡ entered_part_from table.now bound [] (page begin ids.old signs.old buf.old) (reads_from wide 0 run.now)) }
+// Kept: a loop of its own over the entries. With one loop for several the reader has a second caller, and is called and not built in (docs/DECISIONS.md).
+pub fn pass(run: &[u8], given: &mut Given, page: &mut Page) -> Result<(), Refusal>
+    requires { given.old.constants ≡ [] }
+    ensures { Passes run.now given.old page.old result given.new page.new }
 {
-    let mut g = Shape::new();
-    let mut q = Pen {
-        next: 1101659111424,
-        merge: 0,
-        at: 0,
-        values: 0,
-        clash: false,
-    };
-    let mut n: usize = 0;
+    let mut shape = Shape::new();
     let mut rest = run;
-    while 0 < rest.len() {
-        let Read::Found(e, size) = strip::read_entry(rest, Layout::Wide) else {
-            return Passed {
-                whole: false,
-                constants: n,
-                pen: q,
-            };
+    while !rest.is_empty() {
+        let Some((e, size)) = strip::read_entry(rest, Layout::Wide) else {
+            return Err(Refusal::BadShape);
         };
-        let listed = list_entry(keys, n, e);
-        n = listed.constants;
-        q = write_entry(q, ids, signs, buf, table, bound, keys, n, listed.place, e);
-        g = g.entry(e);
+        page.enter(given, e);
+        shape = shape.entry(e);
         rest = &rest[size..];
-        let left = g.left;
-        if left == 0 {
-            return Passed {
-                whole: false,
-                constants: n,
-                pen: q,
-            };
+        if shape.left == 0 {
+            return Err(Refusal::BadShape);
         }
-        if left == 64 {
-            return Passed {
-                whole: rest.len() == 0,
-                constants: n,
-                pen: q,
+        if shape.left == 64 {
+            return if rest.is_empty() {
+                Ok(())
+            } else {
+                Err(Refusal::BadShape)
             };
         }
     }
-    Passed {
-        whole: false,
-        constants: n,
-        pen: q,
-    }
+    Err(Refusal::BadShape)
 }

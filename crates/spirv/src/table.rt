@@ -10,12 +10,9 @@ fn rises(table: &[u32]) -> bool
     requires { length table.now ≡ 303 }
     ensures { result ≡ true → rising 0 table.now ≡ true }
 {
-    let mut high = std::num::wrapping_sub_u32(0, table[0]);
-    let mut i: usize = 0;
-    while i < 302 {
-        let last = table[i];
-        i = i + 1;
-        high = high & std::num::wrapping_sub_u32(last, table[i]);
+    let mut high = 0u32.wrapping_sub(table[0]);
+    for i in 0..302 {
+        high &= table[i].wrapping_sub(table[i + 1]);
     }
     high >= 4290772992
 }
@@ -23,42 +20,38 @@ fn rises(table: &[u32]) -> bool
 fn lent_ok(x: u32, bound: u32) -> bool
     ensures { result ≡ lent_ok bound x }
 {
-    if x == 0 {
-        return false;
-    }
-    if x < bound { x <= 4194302 } else { false }
+    x != 0 && x < bound && x <= 4194302
 }
 
 // The bucket of an id, one of 1024. Ids that follow each other have different ones.
 fn bucket(x: u32) -> usize
     ensures { (result ≡ bucket_of x) × (result < 1024) }
 {
-    (x as u64 * 2654435769 / 4194304 % 1024) as usize
+    (u64::from(x) * 2654435769 / 4194304 % 1024) as usize
 }
 
 // Whether each id passes and none stands twice, in any order. From the last one on, each bucket has a chain of its ids: heads says where the first one
-// stands, links where the next one does, and 303 is none.
+// stands, links where the next one does, and 303 is none. Not built in: such a table takes 900 ns, built in 1100.
+#[inline(never)]
 fn each_ok(table: &[u32], bound: u32) -> bool
     requires { length table.now ≡ 303 }
     ensures { result ≡ all (lent_ok bound) table.now && distinct table.now }
 {
     let mut heads: [u16; 1024] = [303; 1024];
     let mut links: [u16; 303] = [303; 303];
-    let mut i: usize = 303;
-    while i > 0 {
-        i = i - 1;
+    for i in (0..303).rev() {
         let x = table[i];
         if !lent_ok(x, bound) {
             return false;
         }
         let h = bucket(x);
         let first = heads[h];
-        let mut j = first as usize;
+        let mut j = usize::from(first);
         while j < 303 {
             if table[j] == x {
                 return false;
             }
-            j = links[j] as usize;
+            j = usize::from(links[j]);
         }
         links[i] = first;
         heads[h] = i as u16;
@@ -69,11 +62,11 @@ fn each_ok(table: &[u32], bound: u32) -> bool
 pub fn table_ok(table: &[u32], bound: u32) -> bool
     ensures { result ≡ table_ok table.now bound }
 {
-    if table.len() == 303 {
-        if rises(table) {
-            return lent_ok(table[302], bound);
-        }
-        return each_ok(table, bound);
+    if table.len() != 303 {
+        return false;
     }
-    false
+    if rises(table) {
+        return lent_ok(table[302], bound);
+    }
+    each_ok(table, bound)
 }

@@ -4,8 +4,6 @@
 ghost use Rattle.std.specs.Prelude.{◌≡◌};
 ghost use Rattle.spirv_host.specs.Written.{returns, spirv_answer};
 
-use spirv::Outcome;
-
 // The SPIR-V words of one strip at the start of out: `written` words, `constants` of them the list of constants, and `next` the first free id.
 // 0 where they were written; 7, 17, 10, 11 in this order where not: a refusal leaves `written`, `constants`, `next` and out as they were.
 #[unsafe(no_mangle)]
@@ -21,15 +19,12 @@ pub extern "C" fn mehkura_to_spirv(
     ensures { returns result written.new constants.new next.new out.new ≡ spirv_answer strip.now bound table.now out.old written.old constants.old next.old }
 {
     match spirv::to_spirv(strip, bound, table, out) {
-        Outcome::Words(n, m, id) => {
-            *written = n;
-            *constants = m;
-            *next = id;
+        Ok(words) => {
+            *written = words.words;
+            *constants = words.constants;
+            *next = words.next;
             0
         }
-        Outcome::BadShape => 7,
-        Outcome::BadSigns => 17,
-        Outcome::BadIds => 10,
-        Outcome::NoRoom => 11,
+        Err(refusal) => u32::from(refusal),
     }
 }

@@ -1,4 +1,5 @@
 -- A C caller's test block by block ends in the test's answer on the whole.
+use Rattle.std.specs.Prelude.{Result, Ok, Err}
 use mathlib.Core.Path.{◌≡◌, refl, ap, ap₂, ◌∙◌}
 use mathlib.Core.List.{List, [], ◌∷◌}
 use mathlib.Core.Bool.{Bool, cond}
@@ -7,8 +8,7 @@ use lib.ListN.{length}
 use lib.Dec.{eqb}
 use borrow.Author.Tests.{eq-eqb, ne_eqb}
 use Rattle.strip.specs.declared.format.Layout.{Layout}
-use Rattle.strip.specs.declared.format.Numbered.{Numbered}
-use Rattle.strip.specs.declared.format.Numbered.TheVariants.{Known, Unknown}
+use Rattle.strip.specs.declared.format.UnknownLayout.{UnknownLayout}
 use Rattle.strip.specs.declared.stream.Stream.{Stream}
 use Rattle.strip.specs.declared.stream.Fed.{Fed}
 use Rattle.strip.specs.Entry.{ref_length}
@@ -19,15 +19,15 @@ use Rattle.strip.proofs.Blocks.{Kept, keeps-start, keeps-fed, blocks}
 use Rattle.stream_host.specs.Tested.{Answer, begins, shape_begin, returns, told, shape_block, shape_end, handed}
 
 -- ---- the functions
-pub begun-none : (state : List ℕ) (n : Numbered) → n ≡ Unknown → begins 7 state ≡ shape_begin n state
+pub begun-none : (state : List ℕ) (n : Result Layout UnknownLayout) → {e : UnknownLayout} → n ≡ Err e → begins 7 state ≡ shape_begin n state
 unfolding shape_begin
 begun-none state n p = rw p
 
-pub begun-long : (state : List ℕ) (n : Numbered) (l : Layout) → n ≡ Known l → (length state ≡ state_length → ⊥) → begins 7 state ≡ shape_begin n state
+pub begun-long : (state : List ℕ) (n : Result Layout UnknownLayout) (l : Layout) → n ≡ Ok l → (length state ≡ state_length → ⊥) → begins 7 state ≡ shape_begin n state
 unfolding shape_begin
 begun-long state n l p h = rw (p, ne_eqb _ _ h)
 
-pub begun-known : (state state' : List ℕ) (n : Numbered) (l : Layout) (t : Stream) → n ≡ Known l → length state ≡ state_length → t ≡ start_of l → state' ≡ state_bytes t → begins 0 state' ≡ shape_begin n state
+pub begun-known : (state state' : List ℕ) (n : Result Layout UnknownLayout) (l : Layout) (t : Stream) → n ≡ Ok l → length state ≡ state_length → t ≡ start_of l → state' ≡ state_bytes t → begins 0 state' ≡ shape_begin n state
 unfolding shape_begin
 begun-known state state' n l t p h q r = rw (p, eq-eqb _ _ h) (ap (begins 0) (r ∙ ap state_bytes q))
 

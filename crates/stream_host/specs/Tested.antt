@@ -1,7 +1,7 @@
 -- What the shape test block by block answers a C caller.
-use Rattle.std.specs.Prelude.{ℕ, ◌+◌, max, cond, List, [], ◌∷◌, length, eqb}
-use Rattle.strip.specs.declared.format.Numbered.{Numbered}
-use Rattle.strip.specs.declared.format.Numbered.TheVariants.{Known, Unknown}
+use Rattle.std.specs.Prelude.{ℕ, ◌+◌, max, cond, List, [], ◌∷◌, length, eqb, Result, Ok, Err}
+use Rattle.strip.specs.declared.format.Layout.{Layout}
+use Rattle.strip.specs.declared.format.UnknownLayout.{UnknownLayout}
 use Rattle.strip.specs.declared.stream.Fed.{Fed}
 use Rattle.strip.specs.Stream.{start_of, feed, at_end}
 use Rattle.strip.specs.State.{state_length, state_bytes, state_of}
@@ -15,9 +15,9 @@ abbrev pub begins : ℕ → List ℕ → Begun
 begins number state = record { number = number; state = state }
 
 -- no run is well-formed in a layout that there is not
-unfoldable pub shape_begin : Numbered → List ℕ → Begun
-shape_begin (Known l) state = cond (eqb (length state) state_length) (begins 0 (state_bytes (start_of l))) (begins 7 state)
-shape_begin Unknown state = begins 7 state
+unfoldable pub shape_begin : Result Layout UnknownLayout → List ℕ → Begun
+shape_begin (Ok l) state = cond (eqb (length state) state_length) (begins 0 (state_bytes (start_of l))) (begins 7 state)
+shape_begin (Err e) state = begins 7 state
 
 -- the number that is returned, and what the state, the bytes passed and the strips are then
 pub record Answer : Type 0 where

@@ -5,7 +5,7 @@ ghost use Rattle.std.specs.Prelude.{◌≡◌, cond, eqb};
 ghost use Rattle.strip.specs.Entry.{layout_numbered};
 ghost use Rattle.stream_host.specs.Tested.{begins, shape_begin, returns, shape_block, shape_end};
 
-use strip::{Numbered, Stream};
+use strip::{Layout, Stream};
 
 // Begins a test in the layout of this number: the state becomes that of no byte yet. 0; 7 where no layout has the number or the state another length than
 // 45, which leaves it as it was.
@@ -13,7 +13,7 @@ use strip::{Numbered, Stream};
 pub extern "C" fn mehkura_shape_begin(state: &mut [u8], layout: u32) -> u32
     ensures { begins result state.new ≡ shape_begin (layout_numbered layout) state.old }
 {
-    let Numbered::Known(l) = strip::layout_numbered(layout) else {
+    let Ok(l) = Layout::try_from(layout) else {
         return 7;
     };
     if state.len() == 45 {
@@ -35,14 +35,11 @@ pub extern "C" fn mehkura_shape_block(
     ensures { returns result state.new passed.new strips.new ≡ shape_block state.old block.now passed.old strips.old }
 {
     if state.len() == 45 {
-        let before = strip::state_of(state);
-        let f = before.feed(block);
-        let t = f.stream;
-        let g = t.shape;
-        strip::put_state(t, state);
-        *passed = f.bytes;
-        *strips = f.strips;
-        return number(g.left);
+        let fed = strip::state_of(state).feed(block);
+        strip::put_state(fed.stream, state);
+        *passed = fed.bytes;
+        *strips = fed.strips;
+        return number(fed.stream.shape.left);
     }
     7
 }
@@ -59,6 +56,9 @@ fn number(left: usize) -> u32
 pub extern "C" fn mehkura_shape_end(state: &[u8]) -> u32
     ensures { result ≡ shape_end state.now }
 {
-    let t = strip::state_of(state);
-    if t.at_end() { 0 } else { 7 }
+    if strip::state_of(state).at_end() {
+        0
+    } else {
+        7
+    }
 }

@@ -1,4 +1,5 @@
 -- A run tested block by block: however it is cut, the blocks together say what the whole says.
+use Rattle.std.specs.Prelude.{Some, None}
 use mathlib.Core.Path.{◌≡◌, refl, ap, ap₂, subst, ◌∙◌, sym}
 use mathlib.Core.List.{List, [], ◌∷◌, ◌++◌, append-nil, append_assoc}
 use mathlib.Core.Bool.{Bool, true, false, cond, not, ◌&&◌, and-false, false≢true}
@@ -15,13 +16,11 @@ use borrow.Author.Tests.{leb-true, le-leb, eqb-true, eqb-false, eq-eqb, ne_eqb}
 use Rattle.strip.specs.declared.format.Layout.{Layout}
 use Rattle.strip.specs.declared.format.Layout.TheVariants.{Wide, Narrow}
 use Rattle.strip.specs.declared.reader.Entry.{Entry}
-use Rattle.strip.specs.declared.reader.Read.{Read}
-use Rattle.strip.specs.declared.reader.Read.TheVariants.{Found, Stop}
 use Rattle.strip.specs.declared.shape.Shape.{Shape}
 use Rattle.strip.specs.declared.shape.Walked.{Walked}
 use Rattle.strip.specs.declared.stream.Stream.{Stream}
 use Rattle.strip.specs.declared.stream.Fed.{Fed}
-use Rattle.strip.specs.Entry.{ref_length, is_cut, read_entry}
+use Rattle.strip.specs.Entry.{Read, ref_length, is_cut, read_entry}
 use Rattle.strip.specs.Shape.{decode, shape_ok}
 use Rattle.strip.specs.Pass.{Ready, ready, fresh, refused_shape, values_mask, stepped}
 use Rattle.strip.specs.Steps.{still, ahead, halted, walk}
@@ -59,14 +58,14 @@ pub pad-all : (l s : List ℕ) (i : ℕ) → i ≡ length s → l ≡ pad_to i s
 pad-all l s i e p = p ∙ ap₂ (λ (a : List ℕ) (n : ℕ). a ++ replicate (8 - n) 0) (take_all i s (omega arith)) e
 
 -- ---- bytes that wait for more
-waits-true : (len : ℕ) (s : List ℕ) → waits len s ≡ true → (read_entry len s ≡ Stop) × (is_cut s ≡ true)
+waits-true : (len : ℕ) (s : List ℕ) → waits len s ≡ true → (read_entry len s ≡ None) × (is_cut s ≡ true)
 waits-true len s p = (go (read_entry len s) refl, and_right (stops (read_entry len s)) (is_cut s) p)
   where
-    go : (r : Read) → read_entry len s ≡ r → read_entry len s ≡ Stop
-    go (Found e n) q = absurd (false≢true (ap stops (sym q) ∙ and_left (stops (read_entry len s)) (is_cut s) p))
-    go Stop q = q
+    go : (r : Read) → read_entry len s ≡ r → read_entry len s ≡ None
+    go (Some (e, n)) q = absurd (false≢true (ap stops (sym q) ∙ and_left (stops (read_entry len s)) (is_cut s) p))
+    go None q = q
 
-waits-is : (len : ℕ) (s : List ℕ) → read_entry len s ≡ Stop → is_cut s ≡ true → waits len s ≡ true
+waits-is : (len : ℕ) (s : List ℕ) → read_entry len s ≡ None → is_cut s ≡ true → waits len s ≡ true
 waits-is len s p q = rw (p, q)
 
 -- as the code asks: the walk over them passes nothing, and refuses nothing
@@ -81,8 +80,8 @@ waits-walk len g w s v e = ap (λ (v : Walked). eqb v.bytes 0 && not (eqb v.shap
     some_left false = refl
 
     go : (r : Read) → read_entry len s ≡ r → nothing (walk len g s) ≡ stops r && is_cut s
-    go Stop p = ap nothing (walk-stop len g w s p) ∙ some_left (is_cut s)
-    go (Found x n) p = by (eqb (stepped g x).left 0) refl
+    go None p = ap nothing (walk-stop len g w s p) ∙ some_left (is_cut s)
+    go (Some (x, n)) p = by (eqb (stepped g x).left 0) refl
       where
         by : (z : Bool) → eqb (stepped g x).left 0 ≡ z → nothing (walk len g s) ≡ false
         by true z = ap nothing (walk_refused len g w s x n p (eqb-true _ _ z))
@@ -95,7 +94,7 @@ waits-walk len g w s v e = ap (λ (v : Walked). eqb v.bytes 0 && not (eqb v.shap
 pub record Going (t : Stream) : Type 0 where
   pub is_ready : Ready t.shape
   pub few : t.count ≤ 8
-  pub stops : read_entry (ref_length t.layout) (pending t) ≡ Stop
+  pub stops : read_entry (ref_length t.layout) (pending t) ≡ None
   pub cut : is_cut (pending t) ≡ true
 
 pub going-is : (t : Stream) → going t ≡ true → Going t
@@ -117,12 +116,12 @@ module _ (len : ℕ) (g : Shape) (w : Ready g) where
       ∙ ap (λ (v : Walked). ahead v.bytes v.strips (walk len v.shape (drop v.bytes s))) (sym e)
 
   -- it passes all of an entry that was cut, or nothing
-  pub walk-past : (p q : List ℕ) → read_entry len p ≡ Stop → ((walk len g (p ++ q)).bytes ≡ 0 → ⊥) → length p ≤ (walk len g (p ++ q)).bytes
+  pub walk-past : (p q : List ℕ) → read_entry len p ≡ None → ((walk len g (p ++ q)).bytes ≡ 0 → ⊥) → length p ≤ (walk len g (p ++ q)).bytes
   walk-past p q stop x = go (read_entry len (p ++ q)) refl
     where
       go : (r : Read) → read_entry len (p ++ q) ≡ r → length p ≤ (walk len g (p ++ q)).bytes
-      go Stop h = absurd (x (ap (λ (v : Walked). v.bytes) (walk-stop len g w (p ++ q) h)))
-      go (Found e n) h = by (eqb (stepped g e).left 0) refl
+      go None h = absurd (x (ap (λ (v : Walked). v.bytes) (walk-stop len g w (p ++ q) h)))
+      go (Some (e, n)) h = by (eqb (stepped g e).left 0) refl
         where
           by : (z : Bool) → eqb (stepped g e).left 0 ≡ z → length p ≤ (walk len g (p ++ q)).bytes
           by true z = absurd (x (ap (λ (v : Walked). v.bytes) (walk_refused len g w (p ++ q) e n h (eqb-true _ _ z))))

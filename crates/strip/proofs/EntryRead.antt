@@ -1,4 +1,5 @@
 -- Laws of reading: what the definitions of `specs/Entry.antt` give at a place of a run.
+use Rattle.std.specs.Prelude.{Option, Some, None}
 use mathlib.Core.Path.{◌≡◌, refl, ap, ap₂, ◌∙◌, sym}
 use mathlib.Core.List.{List, [], ◌∷◌, ◌++◌, append-nil}
 use mathlib.Core.Bool.{Bool, true, false, cond, true≢false, false≢true}
@@ -10,10 +11,8 @@ use lib.Seq.{take_all, drop-drop}
 use lib.Dec.{eqb}
 use Rattle.strip.specs.declared.format.Body.{Body}
 use Rattle.strip.specs.declared.reader.Entry.{Entry}
-use Rattle.strip.specs.declared.reader.Read.{Read}
-use Rattle.strip.specs.declared.reader.Read.TheVariants.{Found, Stop}
 use Rattle.strip.specs.Format.{format_of}
-use Rattle.strip.specs.Entry.{kind_of, body_of, short, number_at, word_at, whole, followed, read_word, read_as, read_entry, known, is_cut, reads_from}
+use Rattle.strip.specs.Entry.{Read, kind_of, body_of, short, number_at, word_at, whole, followed, read_word, read_as, read_entry, known, is_cut, reads_from}
 
 pub short-lt : (n : ℕ) (s : List ℕ) → length s < n → short n s ≡ true
 unfolding short
@@ -40,13 +39,13 @@ short-true (suc n) [] e = omega arith
 short-true (suc n) (x ∷ s) e = let h : length s < n = short-true n s e in omega arith
 
 -- an entry is cut, or there is the whole of it
-pub cut : (s : List ℕ) (size : ℕ) (e : Entry) → length s < size → Stop ≡ whole s size e
+pub cut : (s : List ℕ) (size : ℕ) (e : Entry) → length s < size → None ≡ whole s size e
 cut s size e h = rw (short-lt size s h) refl
 
-pub uncut : (s : List ℕ) (size : ℕ) (e : Entry) → size ≤ length s → Found e size ≡ whole s size e
+pub uncut : (s : List ℕ) (size : ℕ) (e : Entry) → size ≤ length s → Some (e, size) ≡ whole s size e
 uncut s size e h = rw (short-le size s h) refl
 
-pub read-nil : (len : ℕ) (s : List ℕ) → length s ≡ 0 → Stop ≡ read_entry len s
+pub read-nil : (len : ℕ) (s : List ℕ) → length s ≡ 0 → None ≡ read_entry len s
 unfolding read_entry
 read-nil len [] h = refl
 read-nil len (x ∷ s) h = absurd (omega arith)
@@ -67,11 +66,11 @@ cut-cons [] h = absurd (h refl)
 cut-cons (x ∷ s) h = refl
 
 -- of the kinds below 2 there is one, the word
-pub read_low : (len : ℕ) (s : List ℕ) → (length s ≡ 0 → ⊥) → get_or s 0 0 < 2 → cond (eqb (get_or s 0 0) 1) (read_word s) Stop ≡ read_entry len s
+pub read_low : (len : ℕ) (s : List ℕ) → (length s ≡ 0 → ⊥) → get_or s 0 0 < 2 → cond (eqb (get_or s 0 0) 1) (read_word s) None ≡ read_entry len s
 unfolding format_of read_as
 read_low len s h l = go (get_or s 0 0) l ∙ read-cons len s h
   where
-    go : (k : ℕ) → k < 2 → cond (eqb k 1) (read_word s) Stop ≡ read_as len s (format_of k).body k
+    go : (k : ℕ) → k < 2 → cond (eqb k 1) (read_word s) None ≡ read_as len s (format_of k).body k
     go zero l = refl
     go (suc zero) l = refl
     go (suc (suc k)) l = absurd (omega arith)
@@ -83,13 +82,13 @@ pub record Taken (s : List ℕ) (e : Entry) (n : ℕ) : Type 0 where
   pub body : (format_of (kind_of e)).body ≡ body_of e
 
 abbrev Sound : List ℕ → Read → Type 0
-Sound s (Found e n) = Taken s e n
-Sound s Stop = Unit {0}
+Sound s (Some (e, n)) = Taken s e n
+Sound s None = Unit {0}
 
 whole-sound : (s : List ℕ) (n : ℕ) (e : Entry) → 1 ≤ n → (format_of (kind_of e)).body ≡ body_of e → Sound s (whole s n e)
 whole-sound s n e h b = go (short n s) refl
   where
-    go : (t : Bool) → short n s ≡ t → Sound s (cond t Stop (Found e n))
+    go : (t : Bool) → short n s ≡ t → Sound s (cond t None (Some (e, n)))
     go true p = tt
     go false p = record { forward = h; within = short-false n s p; body = b }
 
@@ -110,7 +109,7 @@ unfolding read_entry
 of-sound len [] = tt
 of-sound len (x ∷ s) = as-sound len (x ∷ s) x (format_of x).body refl
 
-pub found : (len : ℕ) (s : List ℕ) (e : Entry) (n : ℕ) → read_entry len s ≡ Found e n → Taken s e n
+pub found : (len : ℕ) (s : List ℕ) (e : Entry) (n : ℕ) → read_entry len s ≡ Some (e, n) → Taken s e n
 found len s e n p = rw p at (of-sound len s)
 
 -- ---- a list and what comes after it
@@ -165,8 +164,11 @@ entry-append len s t k Body.Three h = rw (number_append len s t 1 (omega arith),
 entry-append len s t k Body.Four h =
     rw (number_append len s t 1 (omega arith), number_append len s t (1 + len) (omega arith), number_append len s t (1 + len + len) (omega arith), number_append len s t (1 + len + len + len) (omega arith))
 
+Some-injective : {A : Type 0} {x y : A} → ◌≡◌ {A = Option A} (Some x) (Some y) → x ≡ y
+Some-injective {A} {x} {y} p = cc
+
 module _ (len : ℕ) where
-  found-stop : (e : Entry) (n : ℕ) → Found e n ≡ Stop → ⊥
+  found-stop : (e : Entry) (n : ℕ) → ◌≡◌ {A = Read} (Some (e, n)) None → ⊥
   found-stop e n p = let z : ◌≡◌ {A = ℕ} 0 1 = cc in absurd (omega arith)
 
   -- where the kind is known, the entry is cut or there is the whole of it
@@ -202,12 +204,12 @@ module _ (len : ℕ) where
       }
 
   -- an unknown kind stops the reading, whatever comes
-  pub unknown-stops : (s : List ℕ) → is_cut s ≡ false → (t : List ℕ) → (read_entry len (s ++ t) ≡ Stop) × (is_cut (s ++ t) ≡ false)
+  pub unknown-stops : (s : List ℕ) → is_cut s ≡ false → (t : List ℕ) → (read_entry len (s ++ t) ≡ None) × (is_cut (s ++ t) ≡ false)
   unfolding is_cut read_entry read_as
   unknown-stops [] p t = absurd (true≢false p)
   unknown-stops (k ∷ s) p t = (go (format_of k).body p, p)
     where
-      go : (b : Body) → known b ≡ false → read_as len (k ∷ (s ++ t)) b k ≡ Stop
+      go : (b : Body) → known b ≡ false → read_as len (k ∷ (s ++ t)) b k ≡ None
       go Body.Unknown p = refl
       go Body.Bare p = absurd (true≢false p)
       go Body.Word p = absurd (true≢false p)
@@ -223,7 +225,7 @@ module _ (len : ℕ) where
   cuts-of [] p h = absurd (omega arith)
   cuts-of (k ∷ s) p h = cuts k s p
 
-  found-known : (s : List ℕ) (e : Entry) (n : ℕ) → read_entry len s ≡ Found e n → Cuts s
+  found-known : (s : List ℕ) (e : Entry) (n : ℕ) → read_entry len s ≡ Some (e, n) → Cuts s
   found-known s e n p = let t = found len s e n p in cuts-of s (go (is_cut s) refl) (omega (arith, t.forward, t.within))
     where
       go : (b : Bool) → is_cut s ≡ b → is_cut s ≡ true
@@ -234,18 +236,18 @@ module _ (len : ℕ) where
     here-alone : read_entry len s ≡ whole s c.size (c.entry s)
     here-alone = rw append-nil at (c.here [])
 
-    found-size : (e : Entry) (n : ℕ) → read_entry len s ≡ Found e n → (c.size ≡ n) × (c.entry s ≡ e)
+    found-size : (e : Entry) (n : ℕ) → read_entry len s ≡ Some (e, n) → (c.size ≡ n) × (c.entry s ≡ e)
     found-size e n p = go (short c.size s) (sym here-alone ∙ p)
       where
-        go : (b : Bool) → cond b Stop (Found (c.entry s) c.size) ≡ Found e n → (c.size ≡ n) × (c.entry s ≡ e)
+        go : (b : Bool) → cond {A = Read} b None (Some (c.entry s, c.size)) ≡ Some (e, n) → (c.size ≡ n) × (c.entry s ≡ e)
         go true q = absurd (found-stop e n (sym q))
-        go false q = (cc, cc)
+        go false q = let same = Some-injective q in (ap (λ (r : Entry × ℕ). r.1) same, ap (λ (r : Entry × ℕ). r.0) same)
 
     -- with all its bytes there, the entry is found, whatever comes
-    whole-found : (t : List ℕ) → c.size ≤ length s → read_entry len (s ++ t) ≡ Found (c.entry s) c.size
+    whole-found : (t : List ℕ) → c.size ≤ length s → read_entry len (s ++ t) ≡ Some ((c.entry s), c.size)
     whole-found t h = c.here t ∙ (rw (short-le c.size (s ++ t) (rw (length-append s t) (omega arith)), c.same t h) refl)
 
-    stop-size : read_entry len s ≡ Stop → length s < c.size
+    stop-size : read_entry len s ≡ None → length s < c.size
     stop-size p = go (short c.size s) refl
       where
         go : (b : Bool) → short c.size s ≡ b → length s < c.size
@@ -253,15 +255,15 @@ module _ (len : ℕ) where
         go false q = absurd (found-stop (c.entry s) c.size (sym (here-alone ∙ (rw q refl)) ∙ p))
 
   -- what is found stays found with more bytes, and is found without those that it does not need
-  pub read_more : (s t : List ℕ) (e : Entry) (n : ℕ) → read_entry len s ≡ Found e n → read_entry len (s ++ t) ≡ Found e n
+  pub read_more : (s t : List ℕ) (e : Entry) (n : ℕ) → read_entry len s ≡ Some (e, n) → read_entry len (s ++ t) ≡ Some (e, n)
   read_more s t e n p =
       let c = found-known s e n p in
       let f = found-size s c e n p in
       let w = found len s e n p in
-      whole-found s c t (omega (arith, f.0, w.within)) ∙ ap₂ (λ (e : Entry) (n : ℕ). Found e n) f.1 f.0
+      whole-found s c t (omega (arith, f.0, w.within)) ∙ ap₂ (λ (e : Entry) (n : ℕ). Some (e, n)) f.1 f.0
 
   -- more bytes make an entry exactly where the list is cut
-  pub cut-found : (s t : List ℕ) → read_entry len s ≡ Stop → (e : Entry) (n : ℕ) → read_entry len (s ++ t) ≡ Found e n → (is_cut s ≡ true) × (length s < n)
+  pub cut-found : (s t : List ℕ) → read_entry len s ≡ None → (e : Entry) (n : ℕ) → read_entry len (s ++ t) ≡ Some (e, n) → (is_cut s ≡ true) × (length s < n)
   unfolding is_cut cuts
   cut-found [] t p e n q = (refl, (found len t e n q).forward)
   cut-found (k ∷ s) t p e n q = go (is_cut (k ∷ s)) refl
@@ -274,7 +276,7 @@ module _ (len : ℕ) where
           let f = found-size (k ∷ (s ++ t)) (cuts k (s ++ t) r) e n q in
           (refl, omega (arith, f.0))
 
-  completes : (k : ℕ) (s : List ℕ) → known (format_of k).body ≡ true → (t : List ℕ) × (e : Entry) × (n : ℕ) × (read_entry len ((k ∷ s) ++ t) ≡ Found e n)
+  completes : (k : ℕ) (s : List ℕ) → known (format_of k).body ≡ true → (t : List ℕ) × (e : Entry) × (n : ℕ) × (read_entry len ((k ∷ s) ++ t) ≡ Some (e, n))
   unfolding cuts
   completes k s p =
       let n : ℕ = size_by len (format_of k).body in
@@ -283,13 +285,13 @@ module _ (len : ℕ) where
       let long : n ≤ length l = rw (length-append s (replicate n 0), length-replicate {A = ℕ} n 0) (omega arith) in
       (replicate n 0, c.entry l, n, here-alone l c ∙ (rw (short-le n l long) refl))
 
-  pub cut-completes : (s : List ℕ) → is_cut s ≡ true → (t : List ℕ) × (e : Entry) × (n : ℕ) × (read_entry len (s ++ t) ≡ Found e n)
+  pub cut-completes : (s : List ℕ) → is_cut s ≡ true → (t : List ℕ) × (e : Entry) × (n : ℕ) × (read_entry len (s ++ t) ≡ Some (e, n))
   unfolding is_cut read_entry read_as format_of short
   cut-completes [] p = (255 ∷ [], Entry.Bare 255, 1, refl)
   cut-completes (k ∷ s) p = completes k s p
 
   -- an entry that is cut lacks a byte at least of the longest entry's nine
-  pub cut-length : len ≤ 2 → (s : List ℕ) → read_entry len s ≡ Stop → is_cut s ≡ true → length s ≤ 8
+  pub cut-length : len ≤ 2 → (s : List ℕ) → read_entry len s ≡ None → is_cut s ≡ true → length s ≤ 8
   cut-length l [] p q = omega arith
   cut-length l (k ∷ s) p q = let c = cuts-of (k ∷ s) q (omega arith) in let h = stop-size (k ∷ s) c p in let m = c.small l in omega arith
 
@@ -301,16 +303,16 @@ reads-skip len (suc i) [] = refl
 reads-skip len zero (b ∷ s) = refl
 reads-skip len (suc i) (b ∷ s) = reads-skip len i s
 
-pub reads-found : (len : ℕ) (s : List ℕ) (e : Entry) (n : ℕ) → read_entry len s ≡ Found e n → reads_from len 0 s ≡ Found e n ∷ reads_from len 0 (drop n s)
+pub reads-found : (len : ℕ) (s : List ℕ) (e : Entry) (n : ℕ) → read_entry len s ≡ Some (e, n) → reads_from len 0 s ≡ Some (e, n) ∷ reads_from len 0 (drop n s)
 unfolding reads_from
 reads-found len s e n p = go s n p (found len s e n p).forward (found len s e n p).within
   where
-    go : (s : List ℕ) (n : ℕ) → read_entry len s ≡ Found e n → 1 ≤ n → n ≤ length s → reads_from len 0 s ≡ Found e n ∷ reads_from len 0 (drop n s)
+    go : (s : List ℕ) (n : ℕ) → read_entry len s ≡ Some (e, n) → 1 ≤ n → n ≤ length s → reads_from len 0 s ≡ Some (e, n) ∷ reads_from len 0 (drop n s)
     go [] n p f w = absurd (omega arith)
     go (b ∷ s) zero p f w = absurd (omega arith)
-    go (b ∷ s) (suc n) p f w = ap (followed (λ i. reads_from len i s)) p ∙ ap (λ (rs : List Read). Found e (suc n) ∷ rs) (reads-skip len n s)
+    go (b ∷ s) (suc n) p f w = ap (followed (λ i. reads_from len i s)) p ∙ ap (λ (rs : List Read). Some (e, (suc n)) ∷ rs) (reads-skip len n s)
 
-pub reads-stop : (len : ℕ) (s : List ℕ) → read_entry len s ≡ Stop → 1 ≤ length s → reads_from len 0 s ≡ Stop ∷ []
+pub reads-stop : (len : ℕ) (s : List ℕ) → read_entry len s ≡ None → 1 ≤ length s → reads_from len 0 s ≡ None ∷ []
 unfolding reads_from
 reads-stop len [] p k = absurd (not-suc-le-zero k)
 reads-stop len (b ∷ s) p k = ap (followed (λ i. reads_from len i s)) p
@@ -329,23 +331,23 @@ pub record Turn (len : ℕ) (s : List ℕ) (at : ℕ) (e : Entry) (n : ℕ) : Ty
   pub forward : 1 ≤ n
   pub inside : at + n ≤ length s
   pub body : (format_of (kind_of e)).body ≡ body_of e
-  pub reads : reads_from len 0 (drop at s) ≡ Found e n ∷ reads_from len 0 (drop (at + n) s)
+  pub reads : reads_from len 0 (drop at s) ≡ Some (e, n) ∷ reads_from len 0 (drop (at + n) s)
 
 module _ (len : ℕ) (s : List ℕ) (at : ℕ) (r : Read) (inside : at < length s) (read : r ≡ read_entry len (take (length s - at) (drop at s))) where
   rest : r ≡ read_entry len (drop at s)
   rest = read ∙ ap (read_entry len) (part-rest s at)
 
-  pub turn : (e : Entry) (n : ℕ) → r ≡ Found e n → Turn len s at e n
+  pub turn : (e : Entry) (n : ℕ) → r ≡ Some (e, n) → Turn len s at e n
   turn e n p =
-      let q : read_entry len (drop at s) ≡ Found e n = sym rest ∙ p in
+      let q : read_entry len (drop at s) ≡ Some (e, n) = sym rest ∙ p in
       let w = found len (drop at s) e n q in
       let l : n ≤ length s - at = rw length-drop at w.within in
       record {
         forward = w.forward;
         inside = omega arith;
         body = w.body;
-        reads = reads-found len (drop at s) e n q ∙ ap (λ (t : List ℕ). Found e n ∷ reads_from len 0 t) (drop-drop n at s);
+        reads = reads-found len (drop at s) e n q ∙ ap (λ (t : List ℕ). Some (e, n) ∷ reads_from len 0 t) (drop-drop n at s);
       }
 
-  pub halt : r ≡ Stop → reads_from len 0 (drop at s) ≡ Stop ∷ []
+  pub halt : r ≡ None → reads_from len 0 (drop at s) ≡ None ∷ []
   halt p = reads-stop len (drop at s) (sym rest ∙ p) (simp length-drop (omega arith))

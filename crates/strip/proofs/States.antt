@@ -2,13 +2,13 @@
 use mathlib.Core.Path.{◌≡◌, refl, ap, subst, ◌∙◌}
 use mathlib.Core.List.{List, [], ◌∷◌, ◌++◌, append-nil}
 use mathlib.Core.Bool.{Bool, true, false, cond, not}
-use Prim.Native.Nat.{ℕ, suc, ◌+◌, ◌-◌, ◌*◌, ◌/◌, ◌%◌, ◌^◌, ◌≤◌, ◌<◌}
+use Prim.Native.Nat.{ℕ, ◌+◌, ◌-◌, ◌*◌, ◌/◌, ◌%◌, ◌^◌, ◌≤◌, ◌<◌}
 use native.Mathlib.Omega.{arith}
-use native.Mathlib.Nat.{mod-eq_of_lt}
+use native.Mathlib.Nat.{mod-eq_of_lt, div-div-eq-div-mul}
 use lib.Dec.{eqb}
 use borrow.Author.Tests.{eq-eqb}
-use lib.ListN.{length, get_or, drop, set, replicate, length-append, length-set, drop_of_length-le}
-use lib.Seq.{sets, sets-eq, drop-cons}
+use lib.ListN.{length, get_or, drop, replicate, length-append, drop_of_length-le}
+use lib.Seq.{sets, sets-eq}
 use Rattle.strip.specs.declared.format.Layout.{Layout}
 use Rattle.strip.specs.declared.format.Layout.TheVariants.{Wide, Narrow}
 use Rattle.strip.specs.declared.stream.Stream.{Stream}
@@ -20,29 +20,9 @@ use Rattle.strip.proofs.Encode.{number-back}
 use Rattle.strip.proofs.Write.{sets-append}
 
 -- ---- writing
--- the loop that writes a number: what is left of it stands where it belongs
-pub record Putting (out₀ : List ℕ) (at : ℕ) (bytes : List ℕ) (out : List ℕ) (i : ℕ) (rest : List ℕ) : Type 0 where
-  pub few : i ≤ 8
-  pub long : length out ≡ length out₀
-  pub so : sets out (at + i) rest ≡ sets out₀ at bytes
-
-module _ (out₀ : List ℕ) (at : ℕ) (bytes : List ℕ) where
-  pub putting-start : Putting out₀ at bytes out₀ 0 bytes
-  putting-start = record { few = omega arith; long = refl; so = let e : at + 0 ≡ at = omega arith in rw e }
-
-  module _ (out : List ℕ) (i : ℕ) (less : i < 8) where
-    pub putting-on : (x : ℕ) (rest : List ℕ) → Putting out₀ at bytes out i (x ∷ rest) → Putting out₀ at bytes (set out (at + i) x) (i + 1) rest
-    putting-on x rest p = record { few = omega arith; long = (simp length-set p.long); so = let e : at + (i + 1) ≡ suc (at + i) = omega arith in ap (λ (n : ℕ). sets (set out (at + i) x) n rest) e ∙ p.so }
-
-  pub putting-end : (out : List ℕ) (i : ℕ) → Putting out₀ at bytes out i [] → Puts out₀ at bytes out
-  putting-end out i p = record { is = p.so }
-
--- what is left of a number, and of a list
-pub number-next : (i x : ℕ) → i < 8 → number_bytes (8 - i) x ≡ x % 256 ∷ number_bytes (8 - (i + 1)) (x / 256)
-number-next i x h = let e : 8 - i ≡ suc (8 - (i + 1)) = omega arith in ap (λ (n : ℕ). number_bytes n x) e
-
-pub list-next : (l : List ℕ) (i : ℕ) → i < length l → drop i l ≡ get_or l i 0 ∷ drop (i + 1) l
-list-next l i h = let e : suc i ≡ i + 1 = omega arith in drop-cons l i 0 h ∙ ap (λ (n : ℕ). get_or l i 0 ∷ drop n l) e
+-- eight bytes, each from the number itself
+pub eight : (x : ℕ) → x % 256 ∷ x / 256 % 256 ∷ x / 65536 % 256 ∷ x / 16777216 % 256 ∷ x / 4294967296 % 256 ∷ x / 1099511627776 % 256 ∷ x / 281474976710656 % 256 ∷ x / 72057594037927936 % 256 ∷ [] ≡ number_bytes 8 x
+eight x = simp div-div-eq-div-mul refl
 
 pub puts-same : {s s' : List ℕ} {at x y : ℕ} → x ≡ y → Puts s at (number_bytes 1 x) s' → Puts s at (number_bytes 1 y) s'
 puts-same {s} {s'} {at} e p = subst (λ (z : ℕ). Puts s at (number_bytes 1 z) s') e p

@@ -1,4 +1,5 @@
 -- The steps (`specs/Steps.antt`) decide the shape, over the whole rest of a run and over parts of it.
+use Rattle.std.specs.Prelude.{Some, None}
 use mathlib.Core.Path.{◌≡◌, refl, ap, ap₂, subst, ◌∙◌, sym}
 use mathlib.Core.List.{List, [], ◌∷◌, ◌++◌}
 use mathlib.Core.Option.{Option, none, some}
@@ -12,13 +13,11 @@ use lib.Dec.{eqb}
 use borrow.Author.Tests.{eqb-true, eqb-false, eq-eqb, ne_eqb}
 use Rattle.strip.specs.declared.format.Body.{Body}
 use Rattle.strip.specs.declared.reader.Entry.{Entry}
-use Rattle.strip.specs.declared.reader.Read.{Read}
-use Rattle.strip.specs.declared.reader.Read.TheVariants.{Found, Stop}
 use Rattle.strip.specs.declared.shape.Shape.{Shape}
 use Rattle.strip.specs.declared.shape.Step.{Step}
 use Rattle.strip.specs.declared.shape.Walked.{Walked}
 use Rattle.strip.specs.Format.{format_of}
-use Rattle.strip.specs.Entry.{kind_of, body_of, is_cut, read_entry, reads_from}
+use Rattle.strip.specs.Entry.{Read, kind_of, body_of, is_cut, read_entry, reads_from}
 use Rattle.strip.specs.Shape.{is_end, grown, joined, cut_at_ends, decode, shape_ok}
 use Rattle.strip.specs.Pass.{Ready, ready, fresh, refused_shape, after, entry_ok, stepped, pass_from}
 use Rattle.strip.specs.Pass as P
@@ -125,18 +124,18 @@ module _ (len : ℕ) where
     step_by_lem w r p = rw (w, p)
 
     module _ (w : Ready g) where
-      by-stop : read_entry len s ≡ Stop → step_or len stop g s ≡ stop
+      by-stop : read_entry len s ≡ None → step_or len stop g s ≡ stop
       unfolding step_by
-      by-stop p = step_by_lem (ready-is g w) Stop p
+      by-stop p = step_by_lem (ready-is g w) None p
 
-      module _ (e : Entry) (n : ℕ) (p : read_entry len s ≡ Found e n) where
+      module _ (e : Entry) (n : ℕ) (p : read_entry len s ≡ Some (e, n)) where
         by-refused : (stepped g e).left ≡ 0 → step_or len stop g s ≡ still refused_shape
         unfolding step_by
-        by-refused z = step_by_lem (ready-is g w) (Found e n) p ∙ rw (eq-eqb _ _ z)
+        by-refused z = step_by_lem (ready-is g w) (Some (e, n)) p ∙ rw (eq-eqb _ _ z)
 
         by-passed : ((stepped g e).left ≡ 0 → ⊥) → step_or len stop g s ≡ record { shape = stepped g e; bytes = n }
         unfolding step_by
-        by-passed z = step_by_lem (ready-is g w) (Found e n) p ∙ rw (ne_eqb _ _ z)
+        by-passed z = step_by_lem (ready-is g w) (Some (e, n)) p ∙ rw (ne_eqb _ _ z)
 
   -- each step passes a byte at least, or refuses; it passes no more than there are
   pub step-forward : (g : Shape) (s : List ℕ) → ((step len g s).bytes ≡ 0 → step len g s ≡ still refused_shape) × ((step len g s).bytes ≤ length s)
@@ -150,8 +149,8 @@ module _ (len : ℕ) where
 
       go : (b : Bool) → ready g ≡ b → (r : Read) → read_entry len s ≡ r → Forward (step len g s)
       go false w r p = subst Forward (sym (unready (still refused_shape) g s w)) refused
-      go true w Stop p = subst Forward (sym (by-stop (still refused_shape) g s (is-ready g w) p)) refused
-      go true w (Found e n) p = by (eqb (stepped g e).left 0) refl (found len s e n p)
+      go true w None p = subst Forward (sym (by-stop (still refused_shape) g s (is-ready g w) p)) refused
+      go true w (Some (e, n)) p = by (eqb (stepped g e).left 0) refl (found len s e n p)
         where
           by : (z : Bool) → eqb (stepped g e).left 0 ≡ z → Taken s e n → Forward (step len g s)
           by true z t = subst Forward (sym (by-refused (still refused_shape) g s (is-ready g w) e n p (eqb-true _ _ z))) refused
@@ -177,8 +176,8 @@ module _ (len : ℕ) where
       refused = rw (steps-refused n (b ∷ s))
 
       go : ((t : List ℕ) → length t ≤ n → (g : Shape) → Ready g → eqb (steps len n g t).left 64 ≡ pass_from g (reads_from len 0 t)) → (r : Read) → read_entry len (b ∷ s) ≡ r → after (step len g (b ∷ s)) ≡ pass_from g (reads_from len 0 (b ∷ s))
-      go ih Stop p = ap after (by-stop (still refused_shape) g (b ∷ s) w p) ∙ refused ∙ pass-stop g (reads_from len 0 (b ∷ s)) (reads-stop len (b ∷ s) p (omega arith))
-      go ih (Found e m) p = by (eqb (stepped g e).left 0) refl
+      go ih None p = ap after (by-stop (still refused_shape) g (b ∷ s) w p) ∙ refused ∙ pass-stop g (reads_from len 0 (b ∷ s)) (reads-stop len (b ∷ s) p (omega arith))
+      go ih (Some (e, m)) p = by (eqb (stepped g e).left 0) refl
         where
           by : (z : Bool) → eqb (stepped g e).left 0 ≡ z → after (step len g (b ∷ s)) ≡ pass_from g (reads_from len 0 (b ∷ s))
           by true z =
@@ -218,10 +217,10 @@ module _ (len : ℕ) where
 
   -- one step of a walk
   module _ (g : Shape) (w : Ready g) (s : List ℕ) where
-    pub walk-stop : read_entry len s ≡ Stop → walk len g s ≡ halted (still (cond (is_cut s) g refused_shape))
+    pub walk-stop : read_entry len s ≡ None → walk len g s ≡ halted (still (cond (is_cut s) g refused_shape))
     walk-stop p = walk_turn g s (still (cond (is_cut s) g refused_shape)) (by-stop _ g s w p) (omega arith)
 
-    module _ (e : Entry) (n : ℕ) (p : read_entry len s ≡ Found e n) where
+    module _ (e : Entry) (n : ℕ) (p : read_entry len s ≡ Some (e, n)) where
       pub walk_refused : (stepped g e).left ≡ 0 → walk len g s ≡ halted (still refused_shape)
       walk_refused z = walk_turn g s (still refused_shape) (by-refused _ g s w e n p z) (omega arith)
 
@@ -257,13 +256,13 @@ module _ (len : ℕ) where
     walking-still : (h : Shape) → walk len g rest ≡ halted (still h) → record { shape = h; bytes = length part - length rest; strips = strips } ≡ walk len start part
     walking-still h p = ap₂ (λ (b k : ℕ). record { shape = h; bytes = b; strips = k }) (sym (add-zero (length part - length rest))) (sym (add-zero strips)) ∙ sym (ap (ahead (length part - length rest) strips) p) ∙ w.so
 
-    pub walking-stop : read_entry len rest ≡ Stop → (h : Shape) → h ≡ cond (is_cut rest) g refused_shape → record { shape = h; bytes = length part - length rest; strips = strips } ≡ walk len start part
+    pub walking-stop : read_entry len rest ≡ None → (h : Shape) → h ≡ cond (is_cut rest) g refused_shape → record { shape = h; bytes = length part - length rest; strips = strips } ≡ walk len start part
     walking-stop p h q = walking-still h (walk-stop g w.is_ready rest p ∙ ap (λ (x : Shape). halted (still x)) (sym q))
 
     pub walking-end : length rest ≤ 0 → record { shape = g; bytes = length part; strips = strips } ≡ walk len start part
     walking-end l = let z : length part - length rest ≡ length part = omega arith in (rw z at (walking-still g (walk_none g w.is_ready rest l)))
 
-    module _ (e : Entry) (n : ℕ) (p : read_entry len rest ≡ Found e n) where
+    module _ (e : Entry) (n : ℕ) (p : read_entry len rest ≡ Some (e, n)) where
       pub walking-refused : (stepped g e).left ≡ 0 → record { shape = refused_shape; bytes = length part - length rest; strips = strips } ≡ walk len start part
       walking-refused z = walking-still refused_shape (walk_refused g w.is_ready rest e n p z)
 
@@ -281,9 +280,9 @@ module _ (len : ℕ) where
 
   -- what holds of a walk that stops, that refuses, and of one with a step more, holds of each
   walk-each : (P : Shape → List ℕ → Walked → Type 0)
-      → ((g : Shape) (s : List ℕ) → Ready g → read_entry len s ≡ Stop → P g s (halted (still (cond (is_cut s) g refused_shape))))
-      → ((g : Shape) (s : List ℕ) (e : Entry) (n : ℕ) → Ready g → read_entry len s ≡ Found e n → (stepped g e).left ≡ 0 → P g s (halted (still refused_shape)))
-      → ((g : Shape) (s : List ℕ) (e : Entry) (n : ℕ) → Ready g → read_entry len s ≡ Found e n → ((stepped g e).left ≡ 0 → ⊥) → (w : Walked) → P (stepped g e) (drop n s) w → P g s (ahead n (ends (stepped g e)) w))
+      → ((g : Shape) (s : List ℕ) → Ready g → read_entry len s ≡ None → P g s (halted (still (cond (is_cut s) g refused_shape))))
+      → ((g : Shape) (s : List ℕ) (e : Entry) (n : ℕ) → Ready g → read_entry len s ≡ Some (e, n) → (stepped g e).left ≡ 0 → P g s (halted (still refused_shape)))
+      → ((g : Shape) (s : List ℕ) (e : Entry) (n : ℕ) → Ready g → read_entry len s ≡ Some (e, n) → ((stepped g e).left ≡ 0 → ⊥) → (w : Walked) → P (stepped g e) (drop n s) w → P g s (ahead n (ends (stepped g e)) w))
       → (m : ℕ) (s : List ℕ) → length s ≤ m → (g : Shape) → Ready g → P g s (walk len g s)
   unfolding read_entry
   walk-each P stops refuses passes zero s l g w = none_left s l
@@ -294,8 +293,8 @@ module _ (len : ℕ) where
   walk-each P stops refuses passes (suc m) s l g w = go (walk-each P stops refuses passes m) (read_entry len s) refl
     where
       go : ((t : List ℕ) → length t ≤ m → (h : Shape) → Ready h → P h t (walk len h t)) → (r : Read) → read_entry len s ≡ r → P g s (walk len g s)
-      go ih Stop p = subst (P g s) (sym (walk-stop g w s p)) (stops g s w p)
-      go ih (Found e n) p = by (eqb (stepped g e).left 0) refl
+      go ih None p = subst (P g s) (sym (walk-stop g w s p)) (stops g s w p)
+      go ih (Some (e, n)) p = by (eqb (stepped g e).left 0) refl
         where
           by : (z : Bool) → eqb (stepped g e).left 0 ≡ z → P g s (walk len g s)
           by true z = subst (P g s) (sym (walk_refused g w s e n p (eqb-true _ _ z))) (refuses g s e n w p (eqb-true _ _ z))
@@ -326,7 +325,7 @@ module _ (len : ℕ) where
   -- where it refuses nothing, what is left is the beginning of an entry that is cut
   pub record Waits (g : Shape) (s : List ℕ) : Type 0 where
     pub is_ready : Ready g
-    pub stops : read_entry len s ≡ Stop
+    pub stops : read_entry len s ≡ None
     pub cut : is_cut s ≡ true
 
   pub walk-waits : (g : Shape) → Ready g → (s : List ℕ) → ((walk len g s).shape.left ≡ 0 → ⊥) → Waits (walk len g s).shape (drop (walk len g s).bytes s)
@@ -337,7 +336,7 @@ module _ (len : ℕ) where
       (λ g s e n w p z v h x. subst (Waits v.shape) (drop-drop v.bytes n s) (h x))
       (length s) s (omega arith) g w
     where
-      stop : (g : Shape) (s : List ℕ) → Ready g → read_entry len s ≡ Stop → (b : Bool) → is_cut s ≡ b → ((cond b g refused_shape).left ≡ 0 → ⊥) → Waits (cond b g refused_shape) s
+      stop : (g : Shape) (s : List ℕ) → Ready g → read_entry len s ≡ None → (b : Bool) → is_cut s ≡ b → ((cond b g refused_shape).left ≡ 0 → ⊥) → Waits (cond b g refused_shape) s
       stop g s w p true q x = record { is_ready = w; stops = p; cut = q }
       stop g s w p false q x = absurd (x refl)
 
@@ -363,7 +362,7 @@ module _ (len : ℕ) where
       ∙ ap (λ (l : List ℕ). ahead (n + v.bytes) (ends (stepped g e) + v.strips) (walk len v.shape (l ++ t))) (drop-drop v.bytes n s))
       (length s) s (omega arith) g w
     where
-      stop : (g : Shape) (s : List ℕ) → Ready g → read_entry len s ≡ Stop → (b : Bool) → is_cut s ≡ b → Joins g s (halted (still (cond b g refused_shape)))
+      stop : (g : Shape) (s : List ℕ) → Ready g → read_entry len s ≡ None → (b : Bool) → is_cut s ≡ b → Joins g s (halted (still (cond b g refused_shape)))
       stop g s w p true q t = sym (ahead-nothing (walk len g (s ++ t)))
       stop g s w p false q t = joins-refused g s (λ t. let u = unknown-stops len s q t in walk-stop g w (s ++ t) u.0 ∙ ap (λ (b : Bool). halted (still (cond b g refused_shape))) u.1) t
 
@@ -382,7 +381,7 @@ module _ (len : ℕ) where
       ∙ pass-taken g (reads_from len 0 s) e n (reads_from len 0 (drop n s)) (reads-found len s e n p) z)
       (length s) s (omega arith) g w
     where
-      stop : (g : Shape) (s : List ℕ) → Ready g → read_entry len s ≡ Stop → Passes g s (halted (still (cond (is_cut s) g refused_shape)))
+      stop : (g : Shape) (s : List ℕ) → Ready g → read_entry len s ≡ None → Passes g s (halted (still (cond (is_cut s) g refused_shape)))
       stop g [] w p = refl
       stop g (b ∷ s) w p = ap (λ (c : Bool). c && eqb (cond (is_cut (b ∷ s)) g refused_shape).left 64) (ne_eqb 0 (length (b ∷ s)) (λ z. omega arith)) ∙ pass-stop g (reads_from len 0 (b ∷ s)) (reads-stop len (b ∷ s) p (omega arith))
 
@@ -415,14 +414,14 @@ module _ (len : ℕ) where
       passed
       (length s) s (omega arith) g w
     where
-      stop : (g : Shape) (s : List ℕ) → Ready g → read_entry len s ≡ Stop → Strips g s (halted (still (cond (is_cut s) g refused_shape)))
+      stop : (g : Shape) (s : List ℕ) → Ready g → read_entry len s ≡ None → Strips g s (halted (still (cond (is_cut s) g refused_shape)))
       stop g s w p ss c q = go s p c
         where
-          go : (s : List ℕ) → read_entry len s ≡ Stop → cut_at_ends (reads_from len 0 s) ≡ some ss → 0 ≡ length ss
+          go : (s : List ℕ) → read_entry len s ≡ None → cut_at_ends (reads_from len 0 s) ≡ some ss → 0 ≡ length ss
           go [] p c = ap length (some_same _ _ c)
           go (b ∷ s) p c = absurd (some-none ss (sym c ∙ ap cut_at_ends (reads-stop len (b ∷ s) p (omega arith))))
 
-      passed : (g : Shape) (s : List ℕ) (e : Entry) (n : ℕ) → Ready g → read_entry len s ≡ Found e n → ((stepped g e).left ≡ 0 → ⊥) → (v : Walked) → Strips (stepped g e) (drop n s) v → Strips g s (ahead n (ends (stepped g e)) v)
+      passed : (g : Shape) (s : List ℕ) (e : Entry) (n : ℕ) → Ready g → read_entry len s ≡ Some (e, n) → ((stepped g e).left ≡ 0 → ⊥) → (v : Walked) → Strips (stepped g e) (drop n s) v → Strips g s (ahead n (ends (stepped g e)) v)
       passed g s e n w p z v h ss c q =
           ap (λ (k : ℕ). k + v.strips) (ends_is g w e z)
           ∙ strips-on e v.strips (cut_at_ends (reads_from len 0 (drop n s)))

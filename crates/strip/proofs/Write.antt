@@ -1,16 +1,15 @@
 -- Laws of writing: there is room or there is none, and what is written is read back.
+use Rattle.std.specs.Prelude.{Option, Some, None}
 use mathlib.Core.Path.{◌≡◌, refl, ap, ◌∙◌, sym}
 use mathlib.Core.Bool.{Bool, true, false, cond}
 use mathlib.Core.List.{List, [], ◌∷◌, ◌++◌, append_assoc}
 use Prim.Native.Nat.{ℕ, suc, ◌+◌, ◌-◌, ◌≤◌, ◌<◌}
 use native.Mathlib.Omega.{arith}
 use lib.ListN.{length, take, drop, set}
-use lib.Seq.{sets, sets-eq, length-sets, drop_at, length-take-le}
+use borrow.Rule.Slice.PartMut.{put_mid}
+use lib.Seq.{sets, sets-eq, length-sets, drop-drop, drop_at, length-take-le}
 use borrow.Author.Tests.{le-leb, lt-leb, leb-true}
 use Rattle.strip.specs.declared.reader.Entry.{Entry}
-use Rattle.strip.specs.declared.reader.Read.TheVariants.{Found}
-use Rattle.strip.specs.declared.writer.Written.{Written}
-use Rattle.strip.specs.declared.writer.Written.TheVariants.{Bytes, NoRoom}
 use Rattle.strip.specs.Entry.{number_bytes, refs_bytes, encode, read_entry, Formed}
 use Rattle.strip.specs.Write.{has_room, written_list, written_answer, Puts, Writes}
 use Rattle.strip.proofs.Encode.{number-length, read_back}
@@ -36,40 +35,47 @@ puts-after-two {s} {s'} {bytes} {i} {x} {y} p =
     let two : i + 2 ≡ suc (suc i) = omega arith in
     record { is = p.is ∙ (rw (one, two) refl) }
 
+-- bytes that are copied to a part of the list
+pub puts-part : (s bytes b : List ℕ) (i k : ℕ) → b ≡ bytes → k ≡ length bytes → i + k ≤ length s → Puts s i bytes (put_mid i k s b)
+puts-part s bytes b i k e h room = record { is = rw (e, h) (ap (λ (l : List ℕ). take i s ++ (bytes ++ l)) (drop-drop (length bytes) i s) ∙ sym (append_assoc (take i s) bytes (drop (i + length bytes) s)) ∙ sym (sets-eq bytes s i (omega arith))) }
+
+-- bytes, and then those after them
+pub puts-append : {s s' s'' xs ys : List ℕ} {i j : ℕ} → j ≡ i + length xs → Puts s i xs s' → Puts s' j ys s'' → Puts s i (xs ++ ys) s''
+puts-append {s} {s'} {s''} {xs} {ys} {i} {j} e p q = record { is = q.is ∙ ap (λ (l : List ℕ). sets l j ys) p.is ∙ sets-append xs ys s i j e }
+
 -- a reference, and then those after it
 pub puts-ref : {s s' s'' : List ℕ} {i j : ℕ} (len r : ℕ) (rs : List ℕ) → j ≡ i + len → Puts s i (number_bytes len r) s' → Puts s' j (refs_bytes len rs) s'' → Puts s i (refs_bytes len (r ∷ rs)) s''
-puts-ref {s} {s'} {s''} {i} {j} len r rs e p q =
-    record { is = q.is ∙ ap (λ (l : List ℕ). sets l j (refs_bytes len rs)) p.is ∙ sets-append (number_bytes len r) (refs_bytes len rs) s i j (e ∙ ap (λ (n : ℕ). i + n) (sym (number-length len r))) }
+puts-ref {s} {s'} {s''} {i} {j} len r rs e p q = puts-append (e ∙ ap (λ (n : ℕ). i + n) (sym (number-length len r))) p q
 
 -- no reference more
 pub puts-end : {s : List ℕ} {i : ℕ} (len : ℕ) → Puts s i (refs_bytes len []) s
 puts-end len = record { is = refl }
 
 module _ (len : ℕ) where
-  pub none : (s : List ℕ) (i : ℕ) (e : Entry) (size : ℕ) → length (encode len e) ≡ size → length s - i < size → Writes len s i e s NoRoom
+  pub none : (s : List ℕ) (i : ℕ) (e : Entry) (size : ℕ) → length (encode len e) ≡ size → length s - i < size → Writes len s i e s None
   unfolding written_list written_answer has_room
   none s i e size q h = let f = lt-leb (i + length (encode len e)) (length s) (omega arith) in record { list = rw f; says = rw f }
 
-  pub put : (s : List ℕ) (i : ℕ) (e : Entry) {s' : List ℕ} (size : ℕ) → length (encode len e) ≡ size → i + size ≤ length s → Puts s i (encode len e) s' → Writes len s i e s' (Bytes size)
+  pub put : (s : List ℕ) (i : ℕ) (e : Entry) {s' : List ℕ} (size : ℕ) → length (encode len e) ≡ size → i + size ≤ length s → Puts s i (encode len e) s' → Writes len s i e s' (Some size)
   unfolding written_list written_answer has_room
   put s i e size q h p = let f = le-leb (i + length (encode len e)) (length s) (omega arith) in record { list = rw (p.is, f); says = rw (f, q) }
 
   -- what is written is read back, with its length: the writer and the reader agree
-  pub read-written : (s s' : List ℕ) (i n : ℕ) (e : Entry) → Formed len e → Writes len s i e s' (Bytes n) → read_entry len (drop i s') ≡ Found e n
+  pub read-written : (s s' : List ℕ) (i n : ℕ) (e : Entry) → Formed len e → Writes len s i e s' (Some n) → read_entry len (drop i s') ≡ Some (e, n)
   unfolding written_list written_answer has_room
   read-written s s' i n e f w = go (has_room len s i e) refl w.list w.says
     where
-      go : (b : Bool) → has_room len s i e ≡ b → s' ≡ cond b (sets s i (encode len e)) s → Bytes n ≡ cond b (Bytes (length (encode len e))) NoRoom → read_entry len (drop i s') ≡ Found e n
+      go : (b : Bool) → has_room len s i e ≡ b → s' ≡ cond b (sets s i (encode len e)) s → Some n ≡ cond b (Some (length (encode len e))) None → read_entry len (drop i s') ≡ Some (e, n)
       go true h l a =
           let room : i + length (encode len e) ≤ length s = leb-true _ _ h in
           let rest : List ℕ = drop (i + length (encode len e)) s in
           let at : drop i s' ≡ encode len e ++ rest =
           ap (drop i) (l ∙ sets-eq (encode len e) s i room ∙ append_assoc (take i s) (encode len e) rest) ∙ drop_at (take i s) (encode len e ++ rest) i (length-take-le i s (omega arith))
           in
-          ap (read_entry len) at ∙ read_back len e f rest ∙ let q : length (encode len e) ≡ n = cc in ap (Found e) q
+          ap (read_entry len) at ∙ read_back len e f rest ∙ let q : length (encode len e) ≡ n = cc in ap (λ (m : ℕ). Some (e, m)) q
       go false h l a = let z : ◌≡◌ {A = ℕ} 0 1 = cc in absurd (omega arith)
 
 -- where there is room, the bytes stand
-pub in-room : {len : ℕ} {s s' : List ℕ} {i : ℕ} {e : Entry} {r : Written} → Writes len s i e s' r → i + length (encode len e) ≤ length s → s' ≡ sets s i (encode len e)
+pub in-room : {len : ℕ} {s s' : List ℕ} {i : ℕ} {e : Entry} {r : Option ℕ} → Writes len s i e s' r → i + length (encode len e) ≤ length s → s' ≡ sets s i (encode len e)
 unfolding written_list has_room
 in-room {len} {s} {s'} {i} {e} w h = rw (w.list, le-leb (i + length (encode len e)) (length s) h)

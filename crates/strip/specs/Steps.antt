@@ -1,14 +1,12 @@
 -- The shape test by steps (02, #103). A step is given a state of fixed size and only the bytes not yet passed; it hands back the next state and
 -- how many bytes it passed. That the steps end in `shape_ok` is proved (proofs/Steps.antt), so a reader need not believe this page.
-use Rattle.std.specs.Prelude.{ℕ, zero, suc, pred, ◌+◌, List, [], ◌∷◌, cond, drop, eqb}
+use Rattle.std.specs.Prelude.{ℕ, zero, suc, pred, ◌+◌, List, [], ◌∷◌, cond, drop, eqb, Some, None}
 use Rattle.strip.specs.declared.reader.Entry.{Entry}
 use Rattle.strip.specs.declared.reader.Entry.TheVariants.{Bare, Word, Cell, Store, One, Two, Three, Four}
-use Rattle.strip.specs.declared.reader.Read.{Read}
-use Rattle.strip.specs.declared.reader.Read.TheVariants.{Found, Stop}
 use Rattle.strip.specs.declared.shape.Shape.{Shape}
 use Rattle.strip.specs.declared.shape.Step.{Step}
 use Rattle.strip.specs.declared.shape.Walked.{Walked}
-use Rattle.strip.specs.Entry.{is_cut, read_entry}
+use Rattle.strip.specs.Entry.{Read, is_cut, read_entry}
 use Rattle.strip.specs.Pass.{refused_shape, ready, stepped}
 
 -- no byte is passed
@@ -17,8 +15,8 @@ still g = record { shape = g; bytes = 0 }
 
 -- an entry that was read is passed or refused; `stop` is the answer where reading stops
 unfoldable pub step_by : Shape → Step → Read → Step
-step_by g stop (Found e n) = cond (eqb (stepped g e).left 0) (still refused_shape) (record { shape = stepped g e; bytes = n })
-step_by g stop Stop = stop
+step_by g stop (Some (e, n)) = cond (eqb (stepped g e).left 0) (still refused_shape) (record { shape = stepped g e; bytes = n })
+step_by g stop None = stop
 
 -- a state that refused, or that does not fit together, is refused whatever comes
 unfoldable pub step_or : ℕ → Step → Shape → List ℕ → Step

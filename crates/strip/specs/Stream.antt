@@ -1,14 +1,12 @@
 -- A run tested block by block (02, #103). What the blocks say together is proved (proofs/Blocks.antt: `blocks`), so a reader need not believe this page.
-use Rattle.std.specs.Prelude.{ℕ, ◌+◌, ◌-◌, List, [], ◌∷◌, ◌++◌, Bool, true, false, cond, ◌&&◌, length, take, drop, replicate, leb, eqb}
+use Rattle.std.specs.Prelude.{ℕ, ◌+◌, ◌-◌, List, [], ◌∷◌, ◌++◌, Bool, true, false, cond, ◌&&◌, length, take, drop, replicate, leb, eqb, Some, None}
 use Rattle.strip.specs.declared.format.Layout.{Layout}
 use Rattle.strip.specs.declared.format.Layout.TheVariants.{Wide}
-use Rattle.strip.specs.declared.reader.Read.{Read}
-use Rattle.strip.specs.declared.reader.Read.TheVariants.{Found, Stop}
 use Rattle.strip.specs.declared.shape.Shape.{Shape}
 use Rattle.strip.specs.declared.shape.Walked.{Walked}
 use Rattle.strip.specs.declared.stream.Stream.{Stream}
 use Rattle.strip.specs.declared.stream.Fed.{Fed}
-use Rattle.strip.specs.Entry.{ref_length, is_cut, read_entry}
+use Rattle.strip.specs.Entry.{Read, ref_length, is_cut, read_entry}
 use Rattle.strip.specs.Pass.{fresh, refused_shape, ready}
 use Rattle.strip.specs.Steps.{ahead, walk}
 
@@ -31,8 +29,8 @@ refused_stream = stream_of Wide refused_shape []
 
 -- reading stops, and more bytes could make an entry
 abbrev pub stops : Read → Bool
-stops (Found e n) = false
-stops Stop = true
+stops (Some (e, n)) = false
+stops None = true
 
 abbrev pub waits : ℕ → List ℕ → Bool
 waits len s = stops (read_entry len s) && is_cut s

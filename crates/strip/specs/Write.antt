@@ -1,9 +1,7 @@
 -- What writing an entry into a list does: `encode` says its bytes.
-use Rattle.std.specs.Prelude.{◌≡◌, Bool, cond, List, ℕ, ◌+◌, leb, length}
+use Rattle.std.specs.Prelude.{◌≡◌, Bool, cond, List, ℕ, ◌+◌, leb, length, Option, Some, None}
 use Rattle.std.proofs.lemmas.List.Edits.{sets}
 use Rattle.strip.specs.declared.reader.Entry.{Entry}
-use Rattle.strip.specs.declared.writer.Written.{Written}
-use Rattle.strip.specs.declared.writer.Written.TheVariants.{Bytes, NoRoom}
 use Rattle.strip.specs.Entry.{encode}
 
 -- there is room for the entry from place i on
@@ -14,9 +12,9 @@ has_room len s i e = leb (i + length (encode len e)) (length s)
 unfoldable pub written_list : ℕ → List ℕ → ℕ → Entry → List ℕ
 written_list len s i e = cond (has_room len s i e) (sets s i (encode len e)) s
 
--- and the answer
-unfoldable pub written_answer : ℕ → List ℕ → ℕ → Entry → Written
-written_answer len s i e = cond (has_room len s i e) (Bytes (length (encode len e))) NoRoom
+-- and the answer: the number of the bytes, or none where there is no room
+unfoldable pub written_answer : ℕ → List ℕ → ℕ → Entry → Option ℕ
+written_answer len s i e = cond (has_room len s i e) (Some (length (encode len e))) None
 
 -- ---- what contracts say
 
@@ -25,6 +23,6 @@ pub record Puts (s : List ℕ) (i : ℕ) (bytes : List ℕ) (s' : List ℕ) : Ty
   pub is : s' ≡ sets s i bytes
 
 -- an entry is written there, its references in len bytes each
-pub record Writes (len : ℕ) (s : List ℕ) (i : ℕ) (e : Entry) (s' : List ℕ) (r : Written) : Type 0 where
+pub record Writes (len : ℕ) (s : List ℕ) (i : ℕ) (e : Entry) (s' : List ℕ) (r : Option ℕ) : Type 0 where
   pub list : s' ≡ written_list len s i e
   pub says : r ≡ written_answer len s i e

@@ -1,5 +1,5 @@
 // The shape test block by block (02, #103): a run may be longer than memory. The state keeps the bytes of an entry that the last block cut.
-ghost use Rattle.std.specs.Prelude.{◌+◌, ◌≤◌, ◌<◌, min, ◌≡◌, true, ◌++◌, length, take, get_or};
+ghost use Rattle.std.specs.Prelude.{◌+◌, ◌≤◌, ◌<◌, min, ◌≡◌, true, ◌++◌, length, take};
 ghost use Rattle.strip.specs.Entry.{ref_length};
 ghost use Rattle.strip.specs.Pass.{Ready};
 ghost use Rattle.strip.specs.Stream.{padded, start_of, refused_stream, waits, going, settled, walked_on, unfed, feed, at_end};
@@ -8,6 +8,7 @@ use crate::format::Layout;
 use crate::shape::{Shape, Walked, walk};
 
 // What the blocks so far say of the next bytes: of kept the first `count` are those of an entry that is cut. The longest entry has nine.
+// Kept: bytes with a length beside them, not a slice or a Vec: a C caller lends the state as 45 bytes (`state_bytes`), and there is no heap.
 #[derive(Clone, Copy)]
 pub struct Stream {
     pub layout: Layout,
@@ -24,32 +25,15 @@ pub struct Fed {
     pub strips: usize,
 }
 
-// A byte of one list and then of another.
-fn byte_at(a: &[u8], b: &[u8], i: usize) -> u8
-    requires { i < length a.now + length b.now }
-    ensures { result ≡ get_or (a.now ++ b.now) i 0 }
-{
-    if i < a.len() { a[i] } else { b[i - a.len()] }
-}
-
-fn least(a: usize, b: usize) -> usize
-    ensures { result ≡ min a b }
-{
-    if a < b { a } else { b }
-}
-
 // The first bytes of two lists, nine or as many as there are: whatever is kept, the next entry is whole in nine.
-fn join(a: &[u8], b: &[u8], out: &mut [u8]) -> usize
-    requires { (length a.now ≤ 8) × (length out.old ≡ 9) }
-    ensures value { (result ≡ min 9 (length a.now + length b.now)) × (length out.new ≡ 9) }
-    ensures out_after { take result out.new ≡ take result (a.now ++ b.now) }
+fn join(a: &[u8], b: &[u8], out: &mut [u8; 9]) -> usize
+    requires { length a.now ≤ 8 }
+    ensures count { result ≡ min 9 (length a.now + length b.now) }
+    ensures front { take result out.new ≡ take result (a.now ++ b.now) }
 {
-    let n = least(9, a.len() + b.len());
-    let mut i = 0;
-    while i < n {
-        out[i] = byte_at(a, b, i);
-        i += 1;
-    }
+    let n = 9.min(a.len() + b.len());
+    out[..a.len()].copy_from_slice(a);
+    out[a.len()..n].copy_from_slice(&b[..n - a.len()]);
     n
 }
 
@@ -59,18 +43,8 @@ pub fn padded(rest: &[u8]) -> [u8; 8]
     ensures { result ≡ padded rest.now }
 {
     let mut kept = [0; 8];
-    let mut i = 0;
-    while i < rest.len() {
-        kept[i] = rest[i];
-        i += 1;
-    }
+    kept[..rest.len()].copy_from_slice(rest);
     kept
-}
-
-fn nine() -> [u8; 9]
-    ensures { length result ≡ 9 }
-{
-    [0; 9]
 }
 
 // Whether these bytes are the beginning of an entry.
@@ -79,8 +53,7 @@ fn waits(g: Shape, kept: &[u8], layout: Layout) -> bool
     ensures { result ≡ waits (ref_length layout) kept.now }
 {
     let w = walk(g, kept, layout);
-    let h = w.shape;
-    if w.bytes == 0 { h.left != 0 } else { false }
+    w.bytes == 0 && w.shape.left != 0
 }
 
 // Nothing of a block is passed, and this is the state.
@@ -99,23 +72,27 @@ fn settle(layout: Layout, w: Walked, rest: &[u8]) -> Fed
     requires { (w.shape.left ≡ 0 → ⊥) → length rest.now ≤ 8 }
     ensures { result ≡ settled layout w rest.now }
 {
-    let g = w.shape;
-    if g.left == 0 {
+    let Walked {
+        shape,
+        bytes,
+        strips,
+    } = w;
+    if shape.left == 0 {
         return Fed {
             stream: Stream::refused(),
-            bytes: w.bytes,
-            strips: w.strips,
+            bytes,
+            strips,
         };
     }
     Fed {
         stream: Stream {
-            layout: layout,
-            shape: g,
+            layout,
+            shape,
             kept: padded(rest),
             count: rest.len(),
         },
-        bytes: w.bytes,
-        strips: w.strips,
+        bytes,
+        strips,
     }
 }
 
@@ -124,16 +101,13 @@ fn walk_on(layout: Layout, first: Walked, rest: &[u8]) -> Fed
     requires { Ready first.shape × (first.bytes ≤ 9) × (first.strips ≤ 9) }
     ensures { result ≡ walked_on layout first rest.now }
 {
-    let g = first.shape;
-    let second = walk(g, rest, layout);
-    let h = second.shape;
-    let more = second.bytes;
+    let second = walk(first.shape, rest, layout);
     let w = Walked {
-        shape: h,
-        bytes: first.bytes + more,
+        shape: second.shape,
+        bytes: first.bytes + second.bytes,
         strips: first.strips + second.strips,
     };
-    settle(layout, w, &rest[more..])
+    settle(layout, w, &rest[second.bytes..])
 }
 
 impl Stream {
@@ -142,7 +116,7 @@ impl Stream {
         ensures { result ≡ start_of layout }
     {
         Stream {
-            layout: layout,
+            layout,
             shape: Shape::new(),
             kept: [0; 8],
             count: 0,
@@ -164,16 +138,9 @@ impl Stream {
     fn going(self) -> bool
         ensures { result ≡ going self }
     {
-        let layout = self.layout;
-        let g = self.shape;
-        let kept = self.kept;
-        let count = self.count;
-        if g.ready() {
-            if count <= 8 {
-                return waits(g, &kept[..count], layout);
-            }
-        }
-        false
+        self.shape.ready()
+            && self.count <= 8
+            && waits(self.shape, &self.kept[..self.count], self.layout)
     }
 
     // A block more. A state that refused, or that does not fit together, is refused.
@@ -191,33 +158,19 @@ impl Stream {
         requires { going self ≡ true }
         ensures { result ≡ feed self block.now }
     {
-        let layout = self.layout;
-        let kept = self.kept;
-        let count = self.count;
-        let mut joint = nine();
-        let n = join(&kept[..count], block, &mut joint);
-        let first = walk(self.shape, &joint[..n], layout);
-        let g = first.shape;
-        let passed = first.bytes;
-        if g.left == 0 {
-            return settle(layout, first, &joint[..n]);
+        let mut joint = [0; 9];
+        let n = join(&self.kept[..self.count], block, &mut joint);
+        let first = walk(self.shape, &joint[..n], self.layout);
+        if first.shape.left == 0 || first.bytes == 0 {
+            return settle(self.layout, first, &joint[..n]);
         }
-        if passed == 0 {
-            return settle(layout, first, &joint[..n]);
-        }
-        walk_on(layout, first, &block[passed - count..])
+        walk_on(self.layout, first, &block[first.bytes - self.count..])
     }
 
     // Whether the run may end here.
     pub fn at_end(self) -> bool
         ensures { result ≡ at_end self }
     {
-        let g = self.shape;
-        if self.going() {
-            if self.count == 0 {
-                return g.left == 64;
-            }
-        }
-        false
+        self.going() && self.count == 0 && self.shape.left == 64
     }
 }

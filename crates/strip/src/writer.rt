@@ -1,52 +1,33 @@
 // The writer of entries, beside the reader: an entry's bytes go into a lent list, from a place on. Where it does not fit nothing is written.
-ghost use Rattle.std.specs.Prelude.{◌≡◌, ℕ, ◌+◌, ◌-◌, ◌≤◌, length};
-ghost use Rattle.strip.specs.Entry.{ref_length, number_bytes, word_bytes, encode};
+// Kept: list, layout and place are three arguments and no struct, as `put_entry` and `write_entry` have promised them.
+ghost use Rattle.std.specs.Prelude.{◌≡◌, ℕ, ◌+◌, ◌*◌, ◌≤◌, length};
+ghost use Rattle.strip.specs.Entry.{ref_length, number_bytes, word_bytes, refs_bytes, encode};
 ghost use Rattle.strip.specs.Write.{Puts, Writes};
 
-use crate::format::{Layout, ref_length};
+use crate::format::Layout;
 use crate::reader::Entry;
 
-// What writing answers: the number of the entry's bytes, which leads to the next place; or that there is no room for it.
-#[derive(Clone, Copy)]
-pub enum Written {
-    Bytes(usize),
-    NoRoom,
-}
-
-// How many bytes there are from place at on.
-fn left(len: usize, at: usize) -> usize
-    ensures { result ≡ len - at }
-{
-    if len < at {
-        return 0;
-    }
-    len - at
-}
-
-// A number's low byte.
-fn put_byte(out: &mut [u8], at: usize, x: u16)
-    requires { at + 1 ≤ length out.old }
-    ensures { Puts out.old at (number_bytes 1 x) out.new }
-{
-    out[at] = (x % 256) as u8;
-}
-
-// A number in two bytes, little-endian.
-fn put_pair(out: &mut [u8], at: usize, x: u16)
-    requires { at + 2 ≤ length out.old }
-    ensures { Puts out.old at (number_bytes 2 x) out.new }
-{
-    out[at] = (x % 256) as u8;
-    out[at + 1] = (x / 256 % 256) as u8;
-}
-
+// A reference, little-endian: its low byte, and in the wide layout the other.
 fn put_ref(out: &mut [u8], layout: Layout, at: usize, r: u16)
     requires { at + ref_length layout ≤ length out.old }
     ensures { Puts out.old at (number_bytes (ref_length layout) r) out.new }
 {
-    match layout {
-        Layout::Wide => put_pair(out, at, r),
-        Layout::Narrow => put_byte(out, at, r),
+    let [low, high] = r.to_le_bytes();
+    out[at] = low;
+    if layout == Layout::Wide {
+        out[at + 1] = high;
+    }
+}
+
+// References, one after another.
+fn put_refs(out: &mut [u8], layout: Layout, at: usize, refs: &[u16])
+    requires { at + length refs.now * ref_length layout ≤ length out.old }
+    ensures { Puts out.old at (refs_bytes (ref_length layout) refs.now) out.new }
+{
+    let mut place = at;
+    for r in refs {
+        put_ref(out, layout, place, *r);
+        place += layout.ref_length();
     }
 }
 
@@ -55,102 +36,45 @@ fn put_four_bytes(out: &mut [u8], at: usize, w: u32)
     requires { at + 4 ≤ length out.old }
     ensures { Puts out.old at (word_bytes w) out.new }
 {
-    out[at] = (w % 256) as u8;
-    out[at + 1] = (w / 256 % 256) as u8;
-    out[at + 2] = (w / 65536 % 256) as u8;
-    out[at + 3] = (w / 16777216 % 256) as u8;
+    out[at..at + 4].copy_from_slice(&w.to_le_bytes());
 }
 
-// ---- entries, where there is room
-// One without references has the same bytes in every layout.
-
-fn put_bare(out: &mut [u8], at: usize, k: u8)
-    requires { at + 1 ≤ length out.old }
-    ensures { (len : ℕ) → Puts out.old at (encode len (Entry.Bare k)) out.new }
-{
-    out[at] = k;
-}
-
-fn put_word(out: &mut [u8], at: usize, w: u32)
-    requires { at + 5 ≤ length out.old }
-    ensures { (len : ℕ) → Puts out.old at (encode len (Entry.Word w)) out.new }
-{
-    out[at] = 1;
-    put_four_bytes(out, at + 1, w);
-}
-
-fn put_cell(out: &mut [u8], at: usize, k: u8, c: u8)
-    requires { at + 2 ≤ length out.old }
-    ensures { (len : ℕ) → Puts out.old at (encode len (Entry.Cell k c)) out.new }
-{
-    out[at] = k;
-    out[at + 1] = c;
-}
-
-fn put_store(out: &mut [u8], layout: Layout, at: usize, k: u8, c: u8, a: u16)
-    requires { at + (2 + ref_length layout) ≤ length out.old }
-    ensures { Puts out.old at (encode (ref_length layout) (Entry.Store k c a)) out.new }
-{
-    out[at] = k;
-    out[at + 1] = c;
-    put_ref(out, layout, at + 2, a);
-}
-
-fn put_one(out: &mut [u8], layout: Layout, at: usize, k: u8, a: u16)
-    requires { at + (1 + ref_length layout) ≤ length out.old }
-    ensures { Puts out.old at (encode (ref_length layout) (Entry.One k a)) out.new }
-{
-    out[at] = k;
-    put_ref(out, layout, at + 1, a);
-}
-
-fn put_two(out: &mut [u8], layout: Layout, at: usize, k: u8, a: u16, b: u16)
-    requires { at + (1 + ref_length layout + ref_length layout) ≤ length out.old }
-    ensures { Puts out.old at (encode (ref_length layout) (Entry.Two k a b)) out.new }
-{
-    let n = ref_length(layout);
-    out[at] = k;
-    put_ref(out, layout, at + 1, a);
-    put_ref(out, layout, at + 1 + n, b);
-}
-
-fn put_three(out: &mut [u8], layout: Layout, at: usize, k: u8, a: u16, b: u16, c: u16)
-    requires { at + (1 + ref_length layout + ref_length layout + ref_length layout) ≤ length out.old }
-    ensures { Puts out.old at (encode (ref_length layout) (Entry.Three k a b c)) out.new }
-{
-    let n = ref_length(layout);
-    out[at] = k;
-    put_ref(out, layout, at + 1, a);
-    put_ref(out, layout, at + 1 + n, b);
-    put_ref(out, layout, at + 1 + n + n, c);
-}
-
-fn put_four(out: &mut [u8], layout: Layout, at: usize, k: u8, a: u16, b: u16, c: u16, d: u16)
-    requires { at + (1 + ref_length layout + ref_length layout + ref_length layout + ref_length layout) ≤ length out.old }
-    ensures { Puts out.old at (encode (ref_length layout) (Entry.Four k a b c d)) out.new }
-{
-    let n = ref_length(layout);
-    out[at] = k;
-    put_ref(out, layout, at + 1, a);
-    put_ref(out, layout, at + 1 + n, b);
-    put_ref(out, layout, at + 1 + n + n, c);
-    put_ref(out, layout, at + 1 + n + n + n, d);
-}
-
-// An entry, from place at on.
+// An entry, from place at on, where there is room.
 pub fn put_entry(out: &mut [u8], layout: Layout, at: usize, e: Entry)
     requires { at + length (encode (ref_length layout) e) ≤ length out.old }
     ensures { Puts out.old at (encode (ref_length layout) e) out.new }
 {
     match e {
-        Entry::Bare(k) => put_bare(out, at, k),
-        Entry::Word(w) => put_word(out, at, w),
-        Entry::Cell(k, c) => put_cell(out, at, k, c),
-        Entry::Store(k, c, a) => put_store(out, layout, at, k, c, a),
-        Entry::One(k, a) => put_one(out, layout, at, k, a),
-        Entry::Two(k, a, b) => put_two(out, layout, at, k, a, b),
-        Entry::Three(k, a, b, c) => put_three(out, layout, at, k, a, b, c),
-        Entry::Four(k, a, b, c, d) => put_four(out, layout, at, k, a, b, c, d),
+        Entry::Bare(k) => out[at] = k,
+        Entry::Word(w) => {
+            out[at] = 1;
+            put_four_bytes(out, at + 1, w);
+        }
+        Entry::Cell(k, c) => {
+            out[at] = k;
+            out[at + 1] = c;
+        }
+        Entry::Store(k, c, a) => {
+            out[at] = k;
+            out[at + 1] = c;
+            put_ref(out, layout, at + 2, a);
+        }
+        Entry::One(k, a) => {
+            out[at] = k;
+            put_refs(out, layout, at + 1, &[a]);
+        }
+        Entry::Two(k, a, b) => {
+            out[at] = k;
+            put_refs(out, layout, at + 1, &[a, b]);
+        }
+        Entry::Three(k, a, b, c) => {
+            out[at] = k;
+            put_refs(out, layout, at + 1, &[a, b, c]);
+        }
+        Entry::Four(k, a, b, c, d) => {
+            out[at] = k;
+            put_refs(out, layout, at + 1, &[a, b, c, d]);
+        }
     }
 }
 
@@ -158,7 +82,7 @@ pub fn put_entry(out: &mut [u8], layout: Layout, at: usize, e: Entry)
 pub fn entry_length(layout: Layout, e: Entry) -> usize
     ensures { result ≡ length (encode (ref_length layout) e) }
 {
-    let n = ref_length(layout);
+    let n = layout.ref_length();
     match e {
         Entry::Bare(_) => 1,
         Entry::Word(_) => 5,
@@ -171,118 +95,14 @@ pub fn entry_length(layout: Layout, e: Entry) -> usize
     }
 }
 
-// ---- entries, as far as there is room
-
-pub fn write_bare(out: &mut [u8], at: usize, k: u8) -> Written
-    ensures { (len : ℕ) → Writes len out.old at (Entry.Bare k) out.new result }
-{
-    if left(out.len(), at) < 1 {
-        return Written::NoRoom;
-    }
-    put_bare(out, at, k);
-    Written::Bytes(1)
-}
-
-pub fn write_word(out: &mut [u8], at: usize, w: u32) -> Written
-    ensures { (len : ℕ) → Writes len out.old at (Entry.Word w) out.new result }
-{
-    if left(out.len(), at) < 5 {
-        return Written::NoRoom;
-    }
-    put_word(out, at, w);
-    Written::Bytes(5)
-}
-
-pub fn write_cell(out: &mut [u8], at: usize, k: u8, c: u8) -> Written
-    ensures { (len : ℕ) → Writes len out.old at (Entry.Cell k c) out.new result }
-{
-    if left(out.len(), at) < 2 {
-        return Written::NoRoom;
-    }
-    put_cell(out, at, k, c);
-    Written::Bytes(2)
-}
-
-pub fn write_store(out: &mut [u8], layout: Layout, at: usize, k: u8, c: u8, a: u16) -> Written
-    ensures { Writes (ref_length layout) out.old at (Entry.Store k c a) out.new result }
-{
-    let n = ref_length(layout);
-    if left(out.len(), at) < 2 + n {
-        return Written::NoRoom;
-    }
-    put_store(out, layout, at, k, c, a);
-    Written::Bytes(2 + n)
-}
-
-pub fn write_one(out: &mut [u8], layout: Layout, at: usize, k: u8, a: u16) -> Written
-    ensures { Writes (ref_length layout) out.old at (Entry.One k a) out.new result }
-{
-    let n = ref_length(layout);
-    if left(out.len(), at) < 1 + n {
-        return Written::NoRoom;
-    }
-    put_one(out, layout, at, k, a);
-    Written::Bytes(1 + n)
-}
-
-pub fn write_two(out: &mut [u8], layout: Layout, at: usize, k: u8, a: u16, b: u16) -> Written
-    ensures { Writes (ref_length layout) out.old at (Entry.Two k a b) out.new result }
-{
-    let n = ref_length(layout);
-    if left(out.len(), at) < 1 + n + n {
-        return Written::NoRoom;
-    }
-    put_two(out, layout, at, k, a, b);
-    Written::Bytes(1 + n + n)
-}
-
-pub fn write_three(
-    out: &mut [u8],
-    layout: Layout,
-    at: usize,
-    k: u8,
-    a: u16,
-    b: u16,
-    c: u16,
-) -> Written
-    ensures { Writes (ref_length layout) out.old at (Entry.Three k a b c) out.new result }
-{
-    let n = ref_length(layout);
-    if left(out.len(), at) < 1 + n + n + n {
-        return Written::NoRoom;
-    }
-    put_three(out, layout, at, k, a, b, c);
-    Written::Bytes(1 + n + n + n)
-}
-
-pub fn write_four(
-    out: &mut [u8],
-    layout: Layout,
-    at: usize,
-    k: u8,
-    a: u16,
-    b: u16,
-    c: u16,
-    d: u16,
-) -> Written
-    ensures { Writes (ref_length layout) out.old at (Entry.Four k a b c d) out.new result }
-{
-    let n = ref_length(layout);
-    if left(out.len(), at) < 1 + n + n + n + n {
-        return Written::NoRoom;
-    }
-    put_four(out, layout, at, k, a, b, c, d);
-    Written::Bytes(1 + n + n + n + n)
-}
-
-// An entry, from place at on.
-pub fn write_entry(out: &mut [u8], layout: Layout, at: usize, e: Entry) -> Written
+// An entry, from place at on, as far as there is room: the number of its bytes, which leads to the next place, or none.
+pub fn write_entry(out: &mut [u8], layout: Layout, at: usize, e: Entry) -> Option<usize>
     ensures { Writes (ref_length layout) out.old at e out.new result }
 {
     let n = entry_length(layout, e);
-    if left(out.len(), at) < n {
-        return Written::NoRoom;
+    if out.len().saturating_sub(at) < n {
+        return None;
     }
     put_entry(out, layout, at, e);
-    Written::Bytes(n)
+    Some(n)
 }

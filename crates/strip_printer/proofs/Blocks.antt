@@ -4,10 +4,13 @@ use mathlib.Core.Path.{◌≡◌, refl, ap, sym, ◌∙◌}
 use mathlib.Core.Bool.{Bool, true, false, ◌&&◌, true≢false}
 use mathlib.Core.List.{List, [], ◌++◌, append_assoc, append-nil}
 use native.Mathlib.Omega.{arith}
-use borrow.Author.Tests.{leb-true, leb-false, eqb-true}
-use lib.Dec.{eqb, leb}
-use lib.ListN.{length, take, drop, length-append, length-drop}
-use lib.Seq.{take_all, take-append-le, drop-append-le, drop-append-add}
+use mathlib.Core.Logic.{inl, inr}
+use borrow.Author.Tests.{eqb-true}
+use Rattle.std.proofs.lemmas.Bool.{cases_lt}
+use Rattle.std.proofs.lemmas.List.{nil_from_length}
+use lib.Dec.{eqb}
+use lib.ListN.{length, take, drop, length-append, length-drop, drop_of_length-le}
+use lib.Seq.{take_all, take_at, drop_at, drop-drop, take-append-le, drop-append-le, drop-append-add}
 use Rattle.ascii.proofs.Text.{sets-append}
 use Rattle.strip_printer.specs.declared.line.Printer.{Printer}
 use Rattle.strip_printer.specs.Line.{line_of, answer_to, printer_after, added, Printed, with_line, step, up_to, lines, no_text, Stands, Block}
@@ -40,16 +43,32 @@ module _ (l before out : List ℕ) (p : Printer) (d : Printed) (s : Stands befor
 pub stands-begun : (out : List ℕ) (p : Printer) → p.at ≡ 0 → Stands out out p (no_text p)
 stands-begun out p e = record { list = refl; at = e; index = refl; marks = refl; going = refl }
 
--- the part of the input that a record is
-pub piece : (l : List ℕ) (n to : ℕ) → to ≡ min (18 * n + 18) (length l) → take (to - 18 * n) (drop (18 * n) l) ≡ take 18 (drop (18 * n) l)
-piece l n to e = by (leb (18 * n + 18) (length l)) refl
+-- the next part of the input that a record is, after n of them, and what is left then
+pub record Cut (l part left : List ℕ) (n : ℕ) : Type 0 where
+  pub piece : part ≡ take 18 (drop (18 * n) l)
+  pub rest : left ≡ drop (18 * suc n) l
+  pub within : 18 * suc n ≤ length l + 17
+
+pub cut-is : (l part left all : List ℕ) (n size : ℕ) → size ≡ 18 → all ≡ drop (18 * n) l → all ≡ part ++ left → length part ≡ min size (length all) → 0 < length all → Cut l part left n
+cut-is l part left all n size s is parts k some = record {
+  piece = go.0 ∙ ap (take 18) is;
+  rest = go.1 ∙ ap (drop 18) is ∙ drop-drop 18 (18 * n) l ∙ (let e : 18 * n + 18 ≡ 18 * suc n = omega arith in rw e refl);
+  within = omega (arith, some, ap length is, length-drop (18 * n) l);
+}
   where
-    by : (b : Bool) → leb (18 * n + 18) (length l) ≡ b → take (to - 18 * n) (drop (18 * n) l) ≡ take 18 (drop (18 * n) l)
-    by true t = let h : 18 * n + 18 ≤ length l = leb-true _ _ t in let z : to - 18 * n ≡ 18 = omega arith in rw z
-    by false t =
-        let h : length l < 18 * n + 18 = leb-false _ _ t in
-        let k = length-drop (18 * n) l in
-        take_all (to - 18 * n) (drop (18 * n) l) (omega (arith, k)) ∙ sym (take_all 18 (drop (18 * n) l) (omega (arith, k)))
+    go : (part ≡ take 18 all) × (left ≡ drop 18 all)
+    go =
+        let total : length all ≡ length part + length left = ap length parts ∙ length-append part left in
+        elim (cases_lt (length all) 18) [
+          | inl short ↦
+              let few : length all ≤ 18 = omega arith in
+              let none : left ≡ [] = nil_from_length left (omega arith) in
+              let whole : all ≡ part = parts ∙ rw none (append-nil part) in
+              (sym whole ∙ sym (take_all 18 all (omega arith)), none ∙ sym (drop_of_length-le all few))
+          | inr long ↦
+              let size : length part ≡ 18 = omega arith in
+              (sym (take_at part left 18 size) ∙ ap (take 18) (sym parts), sym (drop_at part left 18 size) ∙ ap (drop 18) (sym parts))
+        ]
 
 -- one more
 pub up_one : (n : ℕ) (l m : List ℕ) (d : Printed) → m ≡ take 18 (drop (18 * n) l) → step m (up_to n l d) ≡ up_to (suc n) l d

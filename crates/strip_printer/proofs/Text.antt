@@ -1,5 +1,5 @@
 -- Text at a place of a buffer: hex, and the answers that it spells.
-use Prim.Native.Nat.{ℕ, suc, ◌+◌, ◌*◌, ◌/◌, ◌%◌, ◌-◌, ◌≤◌, ◌<◌}
+use Prim.Native.Nat.{ℕ, suc, ◌+◌, ◌*◌, ◌/◌, ◌%◌, ◌≤◌, ◌<◌}
 use mathlib.Core.Path.{◌≡◌, refl, ap, ◌∙◌}
 use mathlib.Core.List.{List, [], ◌∷◌, ◌++◌}
 use native.Mathlib.Omega.{arith}
@@ -8,9 +8,8 @@ use lib.ListN.{length, take, get_or, set, replicate, length-append, length-set}
 use lib.Seq.{sets, take-suc, length-take-le, length-sets}
 use Rattle.ascii.specs.Decimal.{hex_digit_ascii}
 use Rattle.ascii.proofs.Text.{sets-append}
-use Rattle.translation.specs.Strip.{Decision, refusal_number, length_of, decision}
-use Rattle.translation.specs.declared.answer.Outcome.{Outcome}
-use Rattle.translation.specs.declared.answer.Outcome.TheVariants.{Written, Refused}
+use Rattle.translation.specs.Strip.{Outcome, Decision, refusal_number, length_of, decision}
+use Rattle.std.specs.Prelude.{Ok, Err}
 use Rattle.translation.specs.declared.answer.Refusal.{Refusal}
 use Rattle.translation.specs.declared.answer.Refusal.TheVariants.{BadLength, UnknownKind, UnknownForm, SystemValueMov, ByteThree, NoRoom}
 use Rattle.translation.proofs.Shape.{fits}
@@ -49,10 +48,6 @@ hex-more bytes base out at i h e l =
     let b = get_or bytes i 0 in
     rw (take-suc bytes i 0 h, hex-append, e) (sets-append (hex_of (take i bytes)) (hex_digit_ascii (b / 16) ∷ (hex_digit_ascii (b % 16) ∷ [])) base at (at + 2 * i) (omega (arith, length-hex (take i bytes))))
 
--- a part from the front on, as code names it
-pub from_front : (room base out : List ℕ) (n at : ℕ) → out ≡ sets base at (hex_of (take (n - 0) room)) → out ≡ sets base at (hex_of (take n room))
-from_front room base out n at e = let z : n - 0 ≡ n = omega arith in rw z at e
-
 -- ---- refusals
 pub refused-is : (base out : List ℕ) (at : ℕ) (r : Refusal) (b : ℕ) → out ≡ sets base at (114 ∷ 101 ∷ 102 ∷ 117 ∷ 115 ∷ 101 ∷ 100 ∷ 32 ∷ []) → b ≡ 48 + refusal_number r
     → set out (at + 8) b ≡ sets base at (refused_text r)
@@ -65,11 +60,11 @@ refused-size r = refl
 
 -- ---- the two texts
 module _ (o : Outcome) (room : List ℕ) where
-  pub written_is : (n : ℕ) → o ≡ Written n → length_of o ≡ n
+  pub written_is : (n : ℕ) → o ≡ Ok n → length_of o ≡ n
   unfolding length_of
   written_is n e = rw e
 
-  pub strip-answer : (base out : List ℕ) (at r n : ℕ) → o ≡ Written n → length_of o ≤ length room → length_of o ≤ 256 → out ≡ sets base at (hex_of (take n room)) → r ≡ at + 2 * n
+  pub strip-answer : (base out : List ℕ) (at r n : ℕ) → o ≡ Ok n → length_of o ≤ length room → length_of o ≤ 256 → out ≡ sets base at (hex_of (take n room)) → r ≡ at + 2 * n
       → (out ≡ sets base at (text_of o room)) × ((r ≡ at + length (text_of o room)) × (r ≤ at + 512))
   unfolding text_of
   strip-answer base out at r n e h k x y =
@@ -77,7 +72,7 @@ module _ (o : Outcome) (room : List ℕ) where
       let l : length (take n room) ≡ n = length-take-le n room (omega arith) in
       rw e (x, (omega (arith, length-hex (take n room)), omega arith))
 
-  pub refused-answer : (base out : List ℕ) (at r : ℕ) (why : Refusal) → o ≡ Refused why → out ≡ sets base at (refused_text why) → r ≡ at + 9
+  pub refused-answer : (base out : List ℕ) (at r : ℕ) (why : Refusal) → o ≡ Err why → out ≡ sets base at (refused_text why) → r ≡ at + 9
       → (out ≡ sets base at (text_of o room)) × ((r ≡ at + length (text_of o room)) × (r ≤ at + 512))
   unfolding text_of
   refused-answer base out at r why e x y = rw e (x, (omega (arith, refused-size why), omega arith))

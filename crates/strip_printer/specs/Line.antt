@@ -1,10 +1,8 @@
 -- What the strip printer prints (01, last part of 'Bench rows'): a line for each record. Text is a list of ASCII codes.
-use Rattle.std.specs.Prelude.{ℕ, zero, suc, ◌+◌, ◌*◌, ◌/◌, ◌%◌, ◌≤◌, ◌≡◌, Bool, true, cond, List, [], ◌∷◌, ◌++◌, leb, length, take, drop, replicate}
+use Rattle.std.specs.Prelude.{ℕ, zero, suc, ◌+◌, ◌*◌, ◌/◌, ◌%◌, ◌≤◌, ◌≡◌, Bool, true, cond, List, [], ◌∷◌, ◌++◌, leb, length, take, drop, replicate, Ok, Err}
 use Rattle.std.proofs.lemmas.List.Edits.{sets}
 use Rattle.ascii.specs.Decimal.{hex_digit_ascii, decimal_of}
-use Rattle.translation.specs.Strip.{Decision, refusal_number, decision}
-use Rattle.translation.specs.declared.answer.Outcome.{Outcome}
-use Rattle.translation.specs.declared.answer.Outcome.TheVariants.{Written, Refused}
+use Rattle.translation.specs.Strip.{Outcome, Decision, refusal_number, decision}
 use Rattle.translation.specs.declared.answer.Refusal.{Refusal}
 use Rattle.strip_printer.specs.declared.line.Printer.{Printer}
 
@@ -19,8 +17,8 @@ refused_text r = 114 ∷ 101 ∷ 102 ∷ 117 ∷ 115 ∷ 101 ∷ 100 ∷ 32 ∷ 
 
 -- what stands after the space: the strip at the front of the room, or the refusal
 unfoldable pub text_of : Outcome → List ℕ → List ℕ
-text_of (Written n) out = hex_of (take n out)
-text_of (Refused r) out = refused_text r
+text_of (Ok n) out = hex_of (take n out)
+text_of (Err r) out = refused_text r
 
 -- the line, with its end
 unfoldable pub line_of : ℕ → Outcome → List ℕ → List ℕ
@@ -28,8 +26,8 @@ line_of index o out = decimal_of index ++ (32 ∷ (text_of o out ++ (10 ∷ []))
 
 -- the refusals 1 and 2 are the last line
 unfoldable pub goes_on : Outcome → Bool
-goes_on (Written n) = true
-goes_on (Refused r) = leb 3 (refusal_number r)
+goes_on (Ok n) = true
+goes_on (Err r) = leb 3 (refusal_number r)
 
 -- ---- record after record
 

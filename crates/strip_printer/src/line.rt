@@ -1,16 +1,17 @@
 // The lines of a block of records, in a buffer that has room for them. `specs/Line.antt` says what they are. A line has at most 534 bytes:
 // 20 digits, a space, 512 hex digits, the end. A block has at most 455 records.
-ghost use Rattle.std.specs.Prelude.{ℕ, ◌+◌, ◌*◌, ◌^◌, ◌≤◌, ◌<◌, min, ◌≡◌, List, length, take};
+// Kept: std's `write!` promises nothing of what it writes to a slice, and the theorems speak of these bytes.
+ghost use Rattle.std.specs.Prelude.{ℕ, ◌+◌, ◌*◌, ◌^◌, ◌≤◌, ◌<◌, ◌≡◌, List, length, take};
 ghost use Rattle.std.proofs.lemmas.List.Edits.{sets};
 ghost use Rattle.translation.specs.Strip.{refusal_number, length_of};
-ghost use Rattle.ascii.specs.Decimal.{hex_digit_ascii};
 ghost use Rattle.strip_printer.specs.Line.{hex_of, refused_text, text_of, line_of, goes_on};
 ghost use Rattle.strip_printer.specs.Line.{answer_to, printer_after, added, Printed, Stands, no_text, step, lines};
 
-use ascii::{copy, decimal};
-use translation::{Outcome, Refusal};
+use ascii::{copy, decimal, glyph};
+use translation::Refusal;
 
 // Where the printer stands: `at` bytes of text are in the buffer; the index of the next record, the use marks, and whether it goes on.
+// Kept: a flag, since it is `going` of `Printed`, of which `goes` of specs/Line.antt speaks.
 #[derive(Clone, Copy)]
 pub struct Printer {
     pub at: usize,
@@ -19,26 +20,15 @@ pub struct Printer {
     pub going: bool,
 }
 
-// The code of a hex digit.
-fn glyph(d: u8) -> u8
-    requires { d < 16 }
-    ensures { result ≡ hex_digit_ascii d }
-{
-    if d < 10 { 48 + d } else { 87 + d }
-}
-
 // Two digits for each byte, from a place on.
 fn hex(bytes: &[u8], out: &mut [u8], at: usize)
     requires { at + 2 * length bytes.now ≤ length out.old }
     ensures { out.new ≡ sets out.old at (hex_of bytes.now) }
 {
-    let mut i = 0;
-    while i < bytes.len() {
-        let b = bytes[i];
+    for (i, b) in bytes.iter().enumerate() {
         let to = at + 2 * i;
-        out[to] = glyph(b / 16);
-        out[to + 1] = glyph(b % 16);
-        i += 1;
+        out[to] = glyph(*b / 16);
+        out[to + 1] = glyph(*b % 16);
     }
 }
 
@@ -46,7 +36,7 @@ fn hex(bytes: &[u8], out: &mut [u8], at: usize)
 fn digit(r: Refusal) -> u8
     ensures { result ≡ 48 + refusal_number r }
 {
-    b'0' + translation::refusal_number(r) as u8
+    b'0' + u32::from(r) as u8
 }
 
 // `refused N` from a place on, and the place after it.
@@ -66,34 +56,34 @@ fn strip(room: &[u8], n: usize, out: &mut [u8], at: usize) -> usize
     ensures out_after { out.new ≡ sets out.old at (hex_of (take n room.now)) }
     ensures value { result ≡ at + 2 * n }
 {
-    hex(&room[0..n], out, at);
+    hex(&room[..n], out, at);
     at + 2 * n
 }
 
 // The strip or `refused N` from a place on, and the place after it.
-fn outcome_text(o: Outcome, room: &[u8], out: &mut [u8], at: usize) -> usize
+fn outcome_text(o: Result<usize, Refusal>, room: &[u8], out: &mut [u8], at: usize) -> usize
     requires { (length_of o ≤ length room.now) × (length_of o ≤ 256) × (at + 512 ≤ length out.old) }
     ensures out_after { out.new ≡ sets out.old at (text_of o room.now) }
     ensures value { (result ≡ at + length (text_of o room.now)) × (result ≤ at + 512) }
 {
     match o {
-        Outcome::Written(n) => strip(room, n, out, at),
-        Outcome::Refused(r) => refusal(r, out, at),
+        Ok(n) => strip(room, n, out, at),
+        Err(r) => refusal(r, out, at),
     }
 }
 
 // Whether a line can follow.
-fn goes_on(o: Outcome) -> bool
+fn goes_on(o: Result<usize, Refusal>) -> bool
     ensures { result ≡ goes_on o }
 {
     match o {
-        Outcome::Written(n) => true,
-        Outcome::Refused(r) => 3 <= translation::refusal_number(r),
+        Ok(_) => true,
+        Err(r) => 3 <= u32::from(r),
     }
 }
 
 // A line from a place on, and the place after it.
-fn text(index: u64, o: Outcome, room: &[u8], out: &mut [u8], at: usize) -> usize
+fn text(index: u64, o: Result<usize, Refusal>, room: &[u8], out: &mut [u8], at: usize) -> usize
     requires { (length_of o ≤ length room.now) × (length_of o ≤ 256) × (at + 534 ≤ length out.old) }
     ensures out_after { out.new ≡ sets out.old at (line_of index o room.now) }
     ensures value { (result ≡ at + length (line_of index o room.now)) × (result ≤ at + 534) }
@@ -111,17 +101,14 @@ fn line(bytes: &[u8], p: Printer, out: &mut [u8]) -> Printer
     ensures out_after { out.new ≡ added p (answer_to bytes.now p.cbuf_used) out.old }
     ensures value { (result ≡ printer_after p (answer_to bytes.now p.cbuf_used)) × (result.at ≤ p.at + 534) }
 {
-    let mut room = [0u8; 256];
-    let used = p.cbuf_used;
-    let t = translation::translate(bytes, used, &mut room);
-    let o = t.outcome;
-    let marks = t.cbuf_used;
-    let at = text(p.index, o, &room, out, p.at);
+    let mut room = [0; 256];
+    let t = translation::translate(bytes, p.cbuf_used, &mut room);
+    let cbuf_used = t.cbuf_used;
     Printer {
-        at: at,
+        at: text(p.index, t.outcome, &room, out, p.at),
         index: p.index + 1,
-        cbuf_used: marks,
-        going: goes_on(o),
+        cbuf_used,
+        going: goes_on(t.outcome),
     }
 }
 
@@ -134,12 +121,6 @@ fn step(bytes: &[u8], p: Printer, out: &mut [u8]) -> Printer
     if p.going { line(bytes, p, out) } else { p }
 }
 
-fn least(a: usize, b: usize) -> usize
-    ensures { result ≡ min a b }
-{
-    if a < b { a } else { b }
-}
-
 // The lines of the records of a block; what is left of its end counts as one.
 pub fn lines(input: &[u8], start: Printer, out: &mut [u8]) -> Printer
     requires input_len_bound { (length input.now ≤ 8190) × (length out.old ≡ 242970) }
@@ -147,14 +128,9 @@ pub fn lines(input: &[u8], start: Printer, out: &mut [u8]) -> Printer
     ensures stands { Stands out.old out.new result (lines input.now (no_text start)) }
     ensures at_bound { (result.at ≤ 242970) × (result.index ≤ start.index + 455) }
 {
-    let count = (input.len() + 17) / 18;
     let mut p = start;
-    let mut n = 0;
-    while n < count {
-        let from = 18 * n;
-        let to = least(from + 18, input.len());
-        p = step(&input[from..to], p, out);
-        n += 1;
+    for record in input.chunks(18) {
+        p = step(record, p, out);
     }
     p
 }

@@ -12,12 +12,6 @@ use ascii::read_full;
 use line::{Printer, lines};
 use std::io::Read;
 
-fn both(a: bool, b: bool) -> bool
-    ensures { result ≡ (a && b) }
-{
-    if a { b } else { false }
-}
-
 // Reads a block and writes its lines. It is the last one where the input ends in it or the output takes no more.
 fn block(
     p: Printer,
@@ -32,47 +26,34 @@ fn block(
     ensures input_len_2 { (length input.new ≡ 8190) × (length out.new ≡ 242970) }
     ensures at_value_2 { (result.at ≡ 0) × (result.index ≤ p.index + 455) }
 {
-    let n = read_full(from, input);
-    let q = lines(&input[0..n], p, out);
-    let at = q.at;
-    let written = to.write_all(&out[0..at]).is_ok();
-    let marks = q.cbuf_used;
+    let (n, _) = read_full(from, input);
+    let q = lines(&input[..n], p, out);
+    let written = to.write_all(&out[..q.at]).is_ok();
+    let cbuf_used = q.cbuf_used;
     Printer {
         at: 0,
         index: q.index,
-        cbuf_used: marks,
-        going: both(q.going, both(written, n == input.len())),
+        cbuf_used,
+        going: q.going && written && n == input.len(),
     }
-}
-
-// 455 records.
-fn records() -> [u8; 8190]
-    ensures { length result ≡ 8190 }
-{
-    [0; 8190]
-}
-
-// As many of the longest lines.
-fn page() -> [u8; 242970]
-    ensures { length result ≡ 242970 }
-{
-    [0; 242970]
 }
 
 fn main(rt: HostRuntime) {
     let mut from = rt.stdin();
-    let mut input = records();
-    let mut out = page();
+    // 455 records, and as many of the longest lines.
+    let mut input = [0; 8190];
+    let mut out = [0; 242970];
     let mut p = Printer {
         at: 0,
         index: 0,
         cbuf_used: [0; 32],
         going: true,
     };
-    // A proved loop ends, and nothing says that an input does: it counts down from more blocks (2^52) than an input can have.
-    let mut left: u64 = 0x10_0000_0000_0000;
-    while left > 0 && p.going {
+    // A proved loop ends, and nothing says that an input does: these are more blocks (2^52) than an input can have.
+    for _ in 0..0x10_0000_0000_0000u64 {
+        if !p.going {
+            break;
+        }
         p = block(p, &mut input, &mut out, &mut from, &rt);
-        left -= 1;
     }
 }

@@ -1,4 +1,5 @@
 -- A record's strip, evaluated: nothing where its guard fails, else what its arm does when it is run on values.
+use Rattle.std.specs.Prelude.{Ok, Err}
 use mathlib.Core.Path.{◌≡◌, refl, ap, ◌∙◌, subst}
 use mathlib.Core.Bool.{Bool, true, false, cond, not, xor}
 use mathlib.Core.List.{List, [], ◌∷◌, ◌++◌, append_assoc}
@@ -13,7 +14,6 @@ use Rattle.strip.proofs.Tests.{and_left, and_right}
 use Rattle.evaluation.specs.declared.value.Value.{Value}
 use Rattle.evaluation.specs.declared.value.Value.TheVariants.{Truth}
 use Rattle.evaluation.specs.declared.state.State.{State}
-use Rattle.evaluation.specs.declared.machine.Outcome.TheVariants.{Done, Refused}
 use Rattle.evaluation.specs.declared.machine.Evaluated.{Evaluated}
 use Rattle.evaluation.specs.Value.{with_truth, negated}
 use Rattle.evaluation.specs.State.{loaded}
@@ -97,15 +97,15 @@ module _ (cs : List ℕ) (s : State) (vs : List Value) where
 -- ---- the ends of a strip
 
 module _ (cs : List ℕ) (s : State) (vs : List Value) where
-  at-end : entries_from cs (mid s vs) (Entry.Bare 255 ∷ []) ≡ ends Done s
+  at-end : entries_from cs (mid s vs) (Entry.Bare 255 ∷ []) ≡ ends (Ok tt) s
   unfolding entries_from taken_effect outcome_of applied effect_of bare_effect begun
   at-end = refl
 
-  at-close : entries_from cs (mid s vs) (Entry.Bare 101 ∷ Entry.Bare 255 ∷ []) ≡ ends Done s
+  at-close : entries_from cs (mid s vs) (Entry.Bare 101 ∷ Entry.Bare 255 ∷ []) ≡ ends (Ok tt) s
   unfolding entries_from taken_effect outcome_of applied effect_of bare_effect begun
   at-close = refl
 
-  past-close : entries_from cs (skipped s vs) (Entry.Bare 101 ∷ Entry.Bare 255 ∷ []) ≡ ends Done s
+  past-close : entries_from cs (skipped s vs) (Entry.Bare 101 ∷ Entry.Bare 255 ∷ []) ≡ ends (Ok tt) s
   unfolding entries_from taken_effect outcome_of applied effect_of bare_effect begun muted
   past-close = refl
 
@@ -115,13 +115,13 @@ module _ (cs : List ℕ) (s : State) (vs : List Value) where
 
 -- what a strip does where its arm does r, from the state s
 abbrev pub strip_answer : State → Ran → Evaluated
-strip_answer s (ran t v) = ends Done t
-strip_answer s (halted r t) = ends (Refused r) s
+strip_answer s (ran t v) = ends (Ok tt) t
+strip_answer s (halted r t) = ends (Err r) s
 
 -- entries after which the strip ends
 module _ (cs : List ℕ) (s : State) where
-  ended : (all : List Value) (b : Built) (rest : List Entry) → ((t : State) (vs : List Value) → entries_from cs (mid t vs) rest ≡ ends Done t) → (r : Ran) → Follows cs s all b r
-      → restored s (onward (entries_from cs (mid s all) (b.entries ++ rest)) (λ t. ends Done t)) ≡ strip_answer s r
+  ended : (all : List Value) (b : Built) (rest : List Entry) → ((t : State) (vs : List Value) → entries_from cs (mid t vs) rest ≡ ends (Ok tt) t) → (r : Ran) → Follows cs s all b r
+      → restored s (onward (entries_from cs (mid s all) (b.entries ++ rest)) (λ t. ends (Ok tt) t)) ≡ strip_answer s r
   ended all b rest last (ran t v) f = rw (f.goes rest, last t f.values) refl
   ended all b rest last (halted r t) f = rw (f rest) refl
 
@@ -173,14 +173,14 @@ module _ (cs : List ℕ) (k : ℕ) (i : Insn) (s : State) where
 
   -- after a guard that holds the arm runs, after one that fails nothing does
   after_open : (g : Built) (vs : List Value) (t : Bool) → g.next ≡ length vs → length vs ≤ 5
-      → restored s (onward (entries_from cs (record { state = s; values = vs; skip = not t }) ((build (arm_of k i) [] g.next).entries ++ (Entry.Bare 101 ∷ Entry.Bare 255 ∷ []))) (λ u. ends Done u))
-      ≡ cond t (strip_answer s (sem cs (arm_of k i) [] s)) (ends Done s)
+      → restored s (onward (entries_from cs (record { state = s; values = vs; skip = not t }) ((build (arm_of k i) [] g.next).entries ++ (Entry.Bare 101 ∷ Entry.Bare 255 ∷ []))) (λ u. ends (Ok tt) u))
+      ≡ cond t (strip_answer s (sem cs (arm_of k i) [] s)) (ends (Ok tt) s)
   after_open g vs true q h = rw q (ended cs s vs (build (arm_of k i) [] (length vs)) (Entry.Bare 101 ∷ Entry.Bare 255 ∷ []) (λ u ws. at-close cs u ws) (sem cs (arm_of k i) [] s) (arm-follows vs h))
   after_open g vs false q h = rw (skips cs s vs (arm_of k i) 0 (arm-sized k i).closed [] g.next (Entry.Bare 101 ∷ Entry.Bare 255 ∷ []), past-close cs s vs) refl
 
   guard-follows : Gone cs s [] (build (p (guard i) (guard_not i)) [] 0) s (Truth (guard_holds i s))
-      → restored s (onward (entries_from cs (mid s []) (block (build (p (guard i) (guard_not i)) [] 0) (arm_of k i) ++ (Entry.Bare 255 ∷ []))) (λ u. ends Done u))
-      ≡ cond (guard_holds i s) (strip_answer s (sem cs (arm_of k i) [] s)) (ends Done s)
+      → restored s (onward (entries_from cs (mid s []) (block (build (p (guard i) (guard_not i)) [] 0) (arm_of k i) ++ (Entry.Bare 255 ∷ []))) (λ u. ends (Ok tt) u))
+      ≡ cond (guard_holds i s) (strip_answer s (sem cs (arm_of k i) [] s)) (ends (Ok tt) s)
   guard-follows w =
       let g = build (p (guard i) (guard_not i)) [] 0 in
       let arm = (build (arm_of k i) [] g.next).entries in
@@ -191,13 +191,13 @@ module _ (cs : List ℕ) (k : ℕ) (i : Insn) (s : State) where
       rw (shape, w.goes rest, at_open cs s w.values g.result (guard_holds i s) (arm ++ (Entry.Bare 101 ∷ Entry.Bare 255 ∷ [])) w.result)
       (after_open g w.values (guard_holds i s) w.next (omega (arith, w.next, next-bound (p (guard i) (guard_not i)) [] 0, (guard-sized (guard i) (guard_not i)).bound)))
 
-  pub strip-evaluated : evaluated wide (strip k i) s cs ≡ cond (guard_holds i s) (strip_answer s (sem cs (arm_of k i) [] s)) (ends Done s)
+  pub strip-evaluated : evaluated wide (strip k i) s cs ≡ cond (guard_holds i s) (strip_answer s (sem cs (arm_of k i) [] s)) (ends (Ok tt) s)
   unfolding strips_from entries_of guarded never_runs begun xor
   strip-evaluated = evaluated-strips s cs wide (strip k i) (entries_of k i ∷ []) (strip-decodes k i) (strip-shape k i) ∙ go (never_runs i) (eqb (guard i) 7) refl refl
     where
       go : (dead seven : Bool) → never_runs i ≡ dead → eqb (guard i) 7 ≡ seven
-          → restored s (onward (entries_from cs (mid s []) (cond dead [] (cond seven (build (arm_of k i) [] 0).entries (block (build (p (guard i) (guard_not i)) [] 0) (arm_of k i))) ++ (Entry.Bare 255 ∷ []))) (λ u. ends Done u))
-          ≡ cond (guard_holds i s) (strip_answer s (sem cs (arm_of k i) [] s)) (ends Done s)
+          → restored s (onward (entries_from cs (mid s []) (cond dead [] (cond seven (build (arm_of k i) [] 0).entries (block (build (p (guard i) (guard_not i)) [] 0) (arm_of k i))) ++ (Entry.Bare 255 ∷ []))) (λ u. ends (Ok tt) u))
+          ≡ cond (guard_holds i s) (strip_answer s (sem cs (arm_of k i) [] s)) (ends (Ok tt) s)
       go true seven d a = rw (never-holds i s d, at-end cs s []) refl
       go false true d a = let n : guard_not i ≡ false = rw a at d in rw (n, always s (guard i) a) (ended cs s [] (build (arm_of k i) [] 0) (Entry.Bare 255 ∷ []) (λ u ws. at-end cs u ws) (sem cs (arm_of k i) [] s) (arm-follows [] (omega arith)))
       go false false d a =

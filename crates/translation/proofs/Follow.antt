@@ -1,8 +1,11 @@
 -- A helper does what its code says: each law takes what the code does first, and then the rest.
-use mathlib.Core.Path.{◌≡◌, refl, ◌∙◌, sym}
-use mathlib.Core.Bool.{Bool, true, false}
+use mathlib.Core.Path.{◌≡◌, refl}
+use mathlib.Core.Bool.{Bool, true, false, cond, ◌||◌}
+use mathlib.Core.Logic.{◌⊎◌, inl, inr}
 use mathlib.Core.List.{List, [], ◌∷◌, ◌++◌}
 use Prim.Native.Nat.{ℕ}
+use lib.Dec.{eqb}
+use borrow.Author.Tests.{ne_eqb}
 use Rattle.strip.specs.declared.reader.Entry.{Entry}
 use Rattle.translation.specs.Code.{Code, ret, op, act, call, mark, ite, renamed, at as level, ats}
 use Rattle.translation.specs.Emit.{Buffer, Value, emits, Makes, Writes, Raises, Does}
@@ -35,6 +38,17 @@ pub by-no : {b : Buffer} {n : Value} {t : Bool} {c d : Code} {rs : List ℕ} →
 unfolding emits
 by-no e q = record { is = rw e q.is }
 
--- a test that was computed and then found true, or false
-pub told : {r x y : Bool} → r ≡ x → r ≡ y → x ≡ y
-told p q = sym p ∙ q
+-- an operation in its signed or its unsigned kind
+pub by-sign : (t : Bool) {b : Buffer} {m : Value} {k l x y : ℕ} → Makes b m (Entry.Two (cond t k l) x y)
+    → Does b m (ite t (op (Entry.Two k 0 1) (ret 2)) (op (Entry.Two l 0 1) (ret 2))) (x ∷ y ∷ [])
+by-sign true p = by-yes refl (by-op p by-ret)
+by-sign false p = by-no refl (by-op p by-ret)
+
+-- an arm of a match that two numbers come to
+pub by_one_of : {A B C : Type 0} → A ⊎ B → (A → C) → (B → C) → C
+by_one_of (inl a) f g = f a
+by_one_of (inr b) f g = g b
+
+-- and the test of both, where neither is the number
+pub neither : (t m n : ℕ) → (((t ≡ m) ⊎ (t ≡ n)) → ⊥) → eqb t m || eqb t n ≡ false
+neither t m n h = rw (ne_eqb t m (λ e. h (inl e)), ne_eqb t n (λ e. h (inr e)))

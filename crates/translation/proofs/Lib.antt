@@ -1,6 +1,8 @@
 pub mod Follow
 pub mod Write
+pub mod KindNumbers
 pub mod Carry
+pub mod Turns
 pub mod Fits
 pub mod Typed
 pub mod InRange

@@ -5,7 +5,7 @@ use mathlib.Core.List.{List}
 use mathlib.Core.Option.{Option, none, some}
 use Prim.Native.Nat.{ℕ, ◌≤◌}
 use native.Mathlib.Omega.{arith}
-use borrow.Author.Tests.{eq-eqb, le-ltb}
+use borrow.Author.Tests.{eq-eqb, ne_eqb, le-ltb}
 use lib.Dec.{eqb, ltb}
 use lib.ListN.{length, get_or}
 use Rattle.translation.specs.Insn.{Insn}
@@ -70,3 +70,16 @@ module _ (l : List ℕ) where
   pub never-admitted : length l ≡ 18 → known k ≡ true → i.form ≤ 2 → never_runs i ≡ true → admits l ≡ true
   unfolding admits
   never-admitted a b c d = rw (refusal-tested, eq-eqb (length l) 18 a, b, le-ltb 2 i.form c, d) refl
+
+  -- the first refusal, step by step
+  pub short : (length l ≡ 18 → ⊥) → first_refusal l ≡ some BadLength
+  unfolding first_refusal
+  short h = rw (ne_eqb (length l) 18 h)
+
+  pub unknown : length l ≡ 18 → known k ≡ false → first_refusal l ≡ some UnknownKind
+  unfolding first_refusal first_refusal_of
+  unknown h n = rw (eq-eqb (length l) 18 h, n)
+
+  pub read : (n : ℕ) (j : Insn) → length l ≡ 18 → n ≡ k → j ≡ i → first_refusal l ≡ first_refusal_of n j
+  unfolding first_refusal
+  read n j h e f = rw (eq-eqb (length l) 18 h, e, f)

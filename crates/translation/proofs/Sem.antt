@@ -1,4 +1,5 @@
 -- Code run on values: what a helper does to the state, and what it hands back. What is built of closed code does the same, entry by entry.
+use Rattle.std.specs.Prelude.{Err}
 use mathlib.Core.Path.{◌≡◌, refl, ap, ◌∙◌}
 use mathlib.Core.Bool.{Bool, true, false, cond, ◌||◌, false≢true}
 use mathlib.Core.List.{List, [], ◌∷◌, ◌++◌, append_assoc}
@@ -14,7 +15,6 @@ use Rattle.strip.proofs.Tests.{and_left, and_right}
 use Rattle.evaluation.specs.declared.value.Value.{Value}
 use Rattle.evaluation.specs.declared.value.Value.TheVariants.{Undefined, Truth}
 use Rattle.evaluation.specs.declared.state.State.{State}
-use Rattle.evaluation.specs.declared.machine.Outcome.TheVariants.{Refused}
 use Rattle.evaluation.specs.declared.machine.Refusal.{Refusal}
 use Rattle.evaluation.specs.declared.machine.Refusal.TheVariants.{BadShape, UndefinedValue}
 use Rattle.evaluation.specs.State.{stored_reg, stored_pred, stored_flag}
@@ -210,7 +210,7 @@ module _ (cs : List ℕ) where
 
   abbrev pub Follows : State → List Value → Built → Ran → Type 0
   Follows s all b (ran t v) = Gone s all b t v
-  Follows s all b (halted r t) = (rest : List Entry) → entries_from cs (mid s all) (b.entries ++ rest) ≡ ends (Refused r) t
+  Follows s all b (halted r t) = (rest : List Entry) → entries_from cs (mid s all) (b.entries ++ rest) ≡ ends (Err r) t
 
   -- entries, and then what is built
   follows-prefixed : (s t : State) (all more : List Value) (xs : List Entry) (b : Built) → Longer all more
@@ -230,7 +230,7 @@ module _ (cs : List ℕ) where
     unfolding entries_from taken_effect outcome_of applied pushed
     step_push v q h rest = rw (q, lt-ltb (length all) 64 h) refl
 
-    step-refuse : (r : Refusal) → effect_of (mid s all) e cs ≡ Refuse r → (rest : List Entry) → entries_from cs (mid s all) (e ∷ rest) ≡ ends (Refused r) s
+    step-refuse : (r : Refusal) → effect_of (mid s all) e cs ≡ Refuse r → (rest : List Entry) → entries_from cs (mid s all) (e ∷ rest) ≡ ends (Err r) s
     unfolding entries_from taken_effect outcome_of
     step-refuse r q rest = rw q refl
 

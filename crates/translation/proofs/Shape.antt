@@ -20,7 +20,7 @@ use Rattle.translation.specs.Helpers.{p}
 use Rattle.translation.specs.Arms.{arm_of}
 use Rattle.translation.specs.Strip.{Decision, guard, guard_not, never_runs, block, guarded, entries_of, strip, marked, insn_of, first_refusal, is_none, admits, refused, fitted, answered, decision, length_of}
 use Rattle.translation.specs.Turn.{is_written}
-use Rattle.translation.specs.declared.answer.Outcome.TheVariants.{Written}
+use Rattle.std.specs.Prelude.{Ok}
 use Rattle.translation.specs.declared.answer.Refusal.{Refusal}
 use Rattle.translation.specs.declared.answer.Refusal.TheVariants.{NoRoom}
 use Rattle.translation.proofs.Fits.{bounded}
@@ -81,7 +81,7 @@ pub record Accepted (l m room : List ℕ) (n : ℕ) (r : Decision) : Type 0 wher
   pub marks : r.marks ≡ marked (get_or l 0 0) (insn_of l) m
   pub out : r.out ≡ strip (get_or l 0 0) (insn_of l) ++ drop n room
 
-pub accepted : (l m out : List ℕ) (n : ℕ) → (decision l m out).outcome ≡ Written n → (admits l ≡ true) × Accepted l m out n (decision l m out)
+pub accepted : (l m out : List ℕ) (n : ℕ) → (decision l m out).outcome ≡ Ok n → (admits l ≡ true) × Accepted l m out n (decision l m out)
 unfolding decision fitted admits length_of
 accepted l m out n h = go (first_refusal l) h
   where
@@ -89,13 +89,13 @@ accepted l m out n h = go (first_refusal l) h
     s = strip (get_or l 0 0) (insn_of l)
 
     Case : Bool → Decision → Type 0
-    Case b r = r.outcome ≡ Written n → (b ≡ true) × Accepted l m out n r
+    Case b r = r.outcome ≡ Ok n → (b ≡ true) × Accepted l m out n r
 
     no : (b : Bool) (f : Refusal) → Case b (refused f m out)
     no b f e = absurd (false≢true (ap is_written e))
 
     full : Decision
-    full = record { outcome = Written (length s); marks = marked (get_or l 0 0) (insn_of l) m; out = s ++ drop (length s) out }
+    full = record { outcome = Ok (length s); marks = marked (get_or l 0 0) (insn_of l) m; out = s ++ drop (length s) out }
 
     if-fits : (f : Bool) → (f ≡ true → length s ≤ length out) → Case true (cond f full (refused NoRoom m out))
     if-fits true w = λ x. let q : length s ≡ n = ap length_of x in (refl, record { size = sym q; fits = rw (← q) (w refl); marks = refl; out = ap (λ (j : ℕ). s ++ drop j out) q })
@@ -106,10 +106,10 @@ accepted l m out n h = go (first_refusal l) h
     go (some r) = no false r
 
 -- the bytes of an accepted record are one strip that passes the shape test: that of its entries
-pub accepted-strip : (l m out : List ℕ) (n : ℕ) → (decision l m out).outcome ≡ Written n → take n (decision l m out).out ≡ strip (get_or l 0 0) (insn_of l)
+pub accepted-strip : (l m out : List ℕ) (n : ℕ) → (decision l m out).outcome ≡ Ok n → take n (decision l m out).out ≡ strip (get_or l 0 0) (insn_of l)
 accepted-strip l m out n h = let a = (accepted l m out n h).1 in rw a.out (take_at (strip (get_or l 0 0) (insn_of l)) (drop n out) n (sym a.size))
 
-pub accepted-shape : (l m out : List ℕ) (n : ℕ) → (decision l m out).outcome ≡ Written n → shape_ok wide (take n (decision l m out).out) ≡ true
+pub accepted-shape : (l m out : List ℕ) (n : ℕ) → (decision l m out).outcome ≡ Ok n → shape_ok wide (take n (decision l m out).out) ≡ true
 accepted-shape l m out n h = rw (accepted-strip l m out n h) (strip-shape (get_or l 0 0) (insn_of l))
 
 -- an answer keeps the room's length, and what it writes fits

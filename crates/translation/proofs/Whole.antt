@@ -2,11 +2,11 @@
 use mathlib.Core.Path.{◌≡◌, refl, sym, ap, ◌∙◌}
 use mathlib.Core.Bool.{Bool, true, false, cond}
 use mathlib.Core.List.{List, [], ◌∷◌, ◌++◌, append_assoc, append-nil}
-use Prim.Native.Nat.{ℕ, suc, ◌+◌, ◌*◌, ◌≤◌, ◌<◌}
+use Prim.Native.Nat.{ℕ, ◌+◌, ◌≤◌, ◌<◌}
 use native.Mathlib.Omega.{arith}
 use lib.Dec.{eqb}
-use lib.ListN.{length, set as replace, get_or, drop, length-append}
-use lib.Seq.{sets, sets-eq, paste, paste-suc, take-append_seam}
+use lib.ListN.{length, take, drop, length-append}
+use lib.Seq.{sets, sets-eq, take-append_seam}
 use borrow.Author.Tests.{le-leb, lt-leb}
 use Rattle.strip.specs.declared.reader.Entry.{Entry}
 use Rattle.strip.specs.Entry.{kind_of, refs_of, wide, immediate_of, encode}
@@ -17,11 +17,10 @@ use Rattle.translation.specs.Code.{Built, build}
 use Rattle.translation.specs.Helpers.{p}
 use Rattle.translation.specs.Arms.{arm_of}
 use Rattle.translation.specs.Marks.{raise, uses}
-use Rattle.translation.specs.Emit.{Buffer, Value, wrote, emits, view}
+use Rattle.translation.specs.Emit.{Buffer, Value, wrote, emits, start}
 use Rattle.translation.specs.Strip.{guard, guard_not, never_runs, block, guarded, entries_of, strip, marked, refused, fitted}
 use Rattle.translation.specs.Whole.{writes}
-use Rattle.translation.specs.declared.writer.Pos.{Pos}
-use Rattle.translation.specs.declared.answer.Outcome.TheVariants.{Written}
+use Rattle.std.specs.Prelude.{Ok}
 use Rattle.translation.specs.declared.answer.Refusal.TheVariants.{NoRoom}
 use Rattle.translation.proofs.Fits.{bytes-append, roomy, next-bound, Mark, last, raised_mark, Fit, fits}
 use Rattle.translation.proofs.Arms.{arm-sized, guard-sized}
@@ -44,9 +43,6 @@ hold-fit l xs b m es r n k h f = record {
   list = f.list ∙ rw h.list (sets-append xs (strip_bytes wide es) l 0 b.at (omega (arith, h.at)));
   at = omega (arith, f.at, h.at, length-append xs (strip_bytes wide es));
 }
-
-abbrev pub start : List ℕ → Buffer
-start l = record { list = l; at = 0; next = 0; slot = 0; need = 0 }
 
 -- from l the code comes to b: it holds the bytes xs, and its mark takes the marks m to f m
 pub record Holding (l : List ℕ) (b : Buffer) (xs : List ℕ) (f : List ℕ → List ℕ) : Type 0 where
@@ -187,35 +183,26 @@ module _ (k : ℕ) (i : Insn) (l : List ℕ) where
 
 -- ---- the room
 
-pub front-suc : (d s : List ℕ) (j : ℕ) → j < length d → j < length s → replace (paste d 0 s j) j (get_or s j 0) ≡ paste d 0 s (suc j)
-front-suc d s j h k =
-    let e : 0 + j ≡ j = omega arith in
-    ap (λ (i : ℕ). replace (paste d 0 s j) i (get_or s j 0)) (sym e) ∙ paste-suc d 0 s j 0 (omega arith) k
+-- what the buffer holds after a whole strip
+pub record Done (k : ℕ) (i : Insn) (b : Buffer) : Type 0 where
+  pub bytes : take b.at b.list ≡ strip k i
+  pub at : b.at ≡ length (strip k i)
+  pub mark : (m : List ℕ) → raise m b.slot b.need ≡ marked k i m
 
-front : (xs l out : List ℕ) → length xs ≤ length l → paste out 0 (sets l 0 xs) (length xs) ≡ xs ++ drop (length xs) out
-front xs l out h = rw (sets-eq xs l 0 (omega arith), take-append_seam) (let e : 0 + length xs ≡ length xs = omega arith in rw e)
+pub done : (k : ℕ) (i : Insn) (a b : Buffer) → a ≡ start a.list → length a.list ≡ 264 → b ≡ writes k i a → Done k i b
+done k i a b s n e =
+    let w : Holding a.list b (strip k i) (marked k i) = rw (e, s) (whole k i a.list) in
+    record {
+      bytes = rw (w.holds.at, w.holds.list, sets-eq (strip k i) a.list 0 (omega (arith, w.short))) (take-append_seam (strip k i) (drop (0 + length (strip k i)) a.list));
+      at = w.holds.at;
+      mark = w.mark;
+    }
 
--- what the buffer and the position hold after a whole strip
-pub record Done (k : ℕ) (i : Insn) (l l' : List ℕ) (q : Pos) : Type 0 where
-  pub list : l' ≡ sets l 0 (strip k i)
-  pub at : q.at ≡ length (strip k i)
-  pub short : length (strip k i) ≤ 255
-  pub mark : (m : List ℕ) → raise m q.slot (q.words * 4) ≡ marked k i m
-
-pub done : (k : ℕ) (i : Insn) (l l' : List ℕ) (q : Pos) → view l' q ≡ writes k i (view l (record { words = 0; at = 0; values = 0; slot = 0 })) → Done k i l l' q
-unfolding view
-done k i l l' q e =
-    let w : Holding l (view l' q) (strip k i) (marked k i) = rw e (whole k i l) in
-    record { list = w.holds.list; at = w.holds.at; short = w.short; mark = w.mark }
-
-pub no_room : (k : ℕ) (i : Insn) (m out : List ℕ) (n : ℕ) → n ≡ length (strip k i) → length out < n → refused NoRoom m out ≡ fitted k i m out
+pub no_room : (k : ℕ) (i : Insn) (m out : List ℕ) → length out < length (strip k i) → refused NoRoom m out ≡ fitted k i m out
 unfolding fitted
-no_room k i m out n e h = rw (lt-leb (length (strip k i)) (length out) (omega arith))
+no_room k i m out h = rw (lt-leb (length (strip k i)) (length out) h)
 
-pub accepts : (k : ℕ) (i : Insn) (m out l l' : List ℕ) (q : Pos) → Done k i l l' q → length l ≡ 264 → q.at ≤ length out
-    → record { outcome = Written q.at; marks = raise m q.slot (q.words * 4); out = paste out 0 l' q.at } ≡ fitted k i m out
+pub accepts : (k : ℕ) (i : Insn) (m out : List ℕ) → length (strip k i) ≤ length out
+    → record { outcome = Ok (length (strip k i)); marks = marked k i m; out = strip k i ++ drop (length (strip k i)) out } ≡ fitted k i m out
 unfolding fitted
-accepts k i m out l l' q d e h =
-    let s = d.short in
-    let b : length (strip k i) ≤ length out = rw d.at at h in
-    rw (le-leb (length (strip k i)) (length out) b, d.list, d.at, d.mark m, front (strip k i) l out (omega arith))
+accepts k i m out h = rw (le-leb (length (strip k i)) (length out) h)

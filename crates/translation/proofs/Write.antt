@@ -1,31 +1,31 @@
--- A function that writes one entry.
-use mathlib.Core.Path.{◌≡◌}
-use mathlib.Core.List.{List}
+-- An entry is put where the last ended.
+use mathlib.Core.Path.{◌≡◌, ap}
 use Prim.Native.Nat.{ℕ, zero, suc, ◌+◌, ◌*◌, ◌%◌, ◌^◌, ◌≤◌, ◌<◌}
 use native.Mathlib.Nat.{one-mul, mod-eq_of_lt}
 use native.Mathlib.Omega.{arith}
 use lib.Pow.{pow-lt}
 use lib.ListN.{length}
 use Rattle.strip.specs.declared.reader.Entry.{Entry}
-use Rattle.strip.specs.declared.writer.Written.{Written}
-use Rattle.strip.specs.Entry.{wide, encode}
-use Rattle.strip.specs.Write as S
-use Rattle.strip.proofs.Write.{in-room}
-use Rattle.translation.specs.declared.writer.Pos.{Pos}
-use Rattle.translation.specs.declared.writer.Made.{Made}
-use Rattle.translation.specs.Emit.{wrote, made, view, view_made, Makes, Writes}
+use Rattle.strip.specs.Entry.{wide, kind_of, refs_of, immediate_of, encode}
+use Rattle.translation.specs.Emit.{Buffer, Value, wrote, made}
 
--- where strip's writer finds room and the position is handed on, the entry is made
-pub makes : {l' : List ℕ} {m : Made} {r : Written} (l : List ℕ) (p : Pos) (e : Entry) → p.at + length (encode wide e) ≤ length l → S.Writes wide l p.at e l' r
-    → m ≡ record { pos = record { words = p.words; at = (p.at + length (encode wide e)) % 256; values = (p.values + 1) % 256; slot = p.slot }; value = p.values }
-    → Makes (view l p) (view_made l' m) e
-unfolding made view
-makes l p e room w h = record { is = rw (in-room w room, h) }
+-- the longest body has four references
+pub entry-short : (e : Entry) → length (encode wide e) ≤ 9
+unfolding encode kind_of immediate_of refs_of
+entry-short (Entry.Bare k) = omega arith
+entry-short (Entry.Word w) = omega arith
+entry-short (Entry.Cell k n) = omega arith
+entry-short (Entry.Store k n a) = omega arith
+entry-short (Entry.One k a) = omega arith
+entry-short (Entry.Two k a b) = omega arith
+entry-short (Entry.Three k a b c) = omega arith
+entry-short (Entry.Four k a b c d) = omega arith
 
-pub writes : {l' : List ℕ} {q : Pos} {r : Written} (l : List ℕ) (p : Pos) (e : Entry) → p.at + length (encode wide e) ≤ length l → S.Writes wide l p.at e l' r
-    → q ≡ record { words = p.words; at = (p.at + length (encode wide e)) % 256; values = p.values; slot = p.slot } → Writes (view l p) (view l' q) e
-unfolding wrote view
-writes l p e room w h = record { is = rw (in-room w room, h) }
+-- after its entry a value takes the next number
+pub numbered : (a b : Buffer) (e : Entry) → a ≡ wrote e b
+    → record { buffer = record { list = a.list; at = a.at; next = (a.next + 1) % 256; slot = a.slot; need = a.need }; number = a.next } ≡ made e b
+unfolding wrote made
+numbered a b e h = ap {B = Value} (λ (x : Buffer). record { buffer = record { list = x.list; at = x.at; next = (x.next + 1) % 256; slot = x.slot; need = x.need }; number = x.next }) h
 
 -- 1 shifted left, at any width
 pub one_shift : (w n : ℕ) → n < w → (1 * 2 ^ n) % 2 ^ w ≡ 2 ^ n

@@ -1,14 +1,9 @@
 -- What the code does to its buffer: the bytes of each entry go where the last ended, and positions and numbers are counted modulo 256. That this
 -- is what `build` builds, as no strip is so long, is proved once for all code, so a reader need not believe this page.
-use Rattle.std.specs.Prelude.{◌≡◌, Bool, true, false, List, [], ◌∷◌, ◌++◌, ℕ, ◌+◌, ◌*◌, ◌%◌, length}
+use Rattle.std.specs.Prelude.{◌≡◌, Bool, true, false, List, [], ◌∷◌, ◌++◌, ℕ, ◌+◌, ◌%◌, length, Option, Some, None, is_some, option_to_list}
 use Rattle.std.proofs.lemmas.List.Edits.{sets}
 use Rattle.strip.specs.declared.reader.Entry.{Entry}
 use Rattle.strip.specs.Entry.{wide, encode}
-use Rattle.translation.specs.declared.writer.Pos.{Pos}
-use Rattle.translation.specs.declared.writer.Made.{Made}
-use Rattle.translation.specs.declared.helper.Carry.{Carry}
-use Rattle.translation.specs.declared.helper.Carry.TheVariants.{None, Word}
-use Rattle.translation.specs.declared.helper.Sum.{Sum}
 use Rattle.translation.specs.Insn.{Insn}
 use Rattle.translation.specs.Helpers.{src_bc, add_with_flags, carry_sum}
 use Rattle.translation.specs.Code.{Code, ret, op, act, call, mark, ite, renamed, at as level, ats}
@@ -52,12 +47,13 @@ emits (ite false c d) rs b = emits d rs b
 
 -- ---- what contracts say
 
--- the state of the code
-unfoldable pub view : List ℕ → Pos → Buffer
-view l p = record { list = l; at = p.at; next = p.values; slot = p.slot; need = p.words * 4 }
+-- before the first entry
+abbrev pub start : List ℕ → Buffer
+start l = record { list = l; at = 0; next = 0; slot = 0; need = 0 }
 
-abbrev pub view_made : List ℕ → Made → Value
-view_made l m = record { buffer = view l m.pos; number = m.value }
+-- the buffer a method leaves, and the number it hands back
+abbrev pub value : Buffer → ℕ → Value
+value b n = record { buffer = b; number = n }
 
 -- an entry that makes a value, one that makes none, a mark
 pub record Makes (b : Buffer) (m : Value) (e : Entry) : Type 0 where
@@ -77,36 +73,22 @@ pub record Does (b : Buffer) (m : Value) (c : Code) (rs : List ℕ) : Type 0 whe
 pub record Fetches (b b' : Buffer) (i : Insn) (swap : Bool) (x y : ℕ) : Type 0 where
   pub is : (k : Code) (a : ℕ) (n : Value) → Does b' n k (a ∷ x ∷ y ∷ []) → Does b n (src_bc i swap k) (a ∷ [])
 
--- a carry: whether one is given, and the numbers that are
-unfoldable pub is_given : Carry → Bool
-is_given None = false
-is_given (Word n) = true
-
-unfoldable pub words : Carry → List ℕ
-words None = []
-words (Word n) = n ∷ []
-
--- its number, or another where none is given: the Rust's `unwrap_or`
-unfoldable pub or_else : Carry → ℕ → ℕ
-or_else None f = f
-or_else (Word n) f = n
-
 -- a sum and its carry out
 pub record Summed : Type 0 where
   pub buffer : Buffer
   pub number : ℕ
   pub carry : ℕ
 
-abbrev pub summed : List ℕ → Sum → Summed
-summed l s = record { buffer = view l s.pos; number = s.value; carry = s.carry }
+abbrev pub summed : Buffer → ℕ × ℕ → Summed
+summed b s = record { buffer = b; number = s.0; carry = s.1 }
 
 -- after the carry in was added to sum v, whose carry out is c
-unfoldable pub carry_added : Carry → (v c : ℕ) → Buffer → Summed
+unfoldable pub carry_added : Option ℕ → (v c : ℕ) → Buffer → Summed
 carry_added None v c b = record { buffer = b; number = v; carry = c }
-carry_added (Word n) v c b =
+carry_added (Some n) v c b =
     let v2 = made (Entry.Two 40 v n) b in let c2 = made (Entry.Two 62 v2.number v) v2.buffer in let o = made (Entry.Two 82 c c2.number) c2.buffer in
     record { buffer = o.buffer; number = v2.number; carry = o.number }
 
 -- from b to b' the carry in of a sum is fetched: `add_with_flags` with it, of a and d, is what `carry_sum` has follow
-pub record Carries (b b' : Buffer) (x one : Bool) (c : Carry) : Type 0 where
-  pub is : (cc : Bool) (a d : ℕ) (n : Value) → Does b' n (add_with_flags (is_given c) cc) (a ∷ d ∷ words c) → Does b n (carry_sum x one cc) (a ∷ d ∷ [])
+pub record Carries (b b' : Buffer) (x one : Bool) (c : Option ℕ) : Type 0 where
+  pub is : (cc : Bool) (a d : ℕ) (n : Value) → Does b' n (add_with_flags (is_some c) cc) (a ∷ d ∷ option_to_list c) → Does b n (carry_sum x one cc) (a ∷ d ∷ [])

@@ -5,6 +5,8 @@ pub mod Helpers
 pub mod Arms
 pub mod Marks
 pub mod Strip
+pub mod Kinds
+pub mod Ops
 pub mod Emit
 pub mod Whole
 pub mod Turn

@@ -1,5 +1,5 @@
 -- From a record to its strip and its answer (01, 'Record', 'Strip' and 'Who can cause a refusal'): this is the definition of the translation.
-use Rattle.std.specs.Prelude.{Bool, true, false, cond, ◌&&◌, List, [], ◌∷◌, ◌++◌, ℕ, ◌+◌, ◌*◌, eqb, ltb, leb, length, get_or, drop}
+use Rattle.std.specs.Prelude.{Bool, true, false, cond, ◌&&◌, List, [], ◌∷◌, ◌++◌, ℕ, ◌+◌, ◌*◌, eqb, ltb, leb, length, get_or, drop, Result, Ok, Err}
 use Rattle.std.proofs.Math.Option.{Option, none, some}
 use Rattle.strip.specs.declared.reader.Entry.{Entry}
 use Rattle.strip.specs.Entry.{wide}
@@ -9,8 +9,6 @@ use Rattle.translation.specs.Code.{Code, Built, build}
 use Rattle.translation.specs.Helpers.{p}
 use Rattle.translation.specs.Arms.{arm_of}
 use Rattle.translation.specs.Marks.{uses}
-use Rattle.translation.specs.declared.answer.Outcome.{Outcome}
-use Rattle.translation.specs.declared.answer.Outcome.TheVariants.{Written, Refused}
 use Rattle.translation.specs.declared.answer.Refusal.{Refusal}
 use Rattle.translation.specs.declared.answer.Refusal.TheVariants.{BadLength, UnknownKind, UnknownForm, SystemValueMov, ByteThree, NoRoom}
 
@@ -23,15 +21,19 @@ refusal_number SystemValueMov = 4
 refusal_number ByteThree = 5
 refusal_number NoRoom = 6
 
--- and of an answer, 0 of a strip
+-- what a record comes to: its strip's length, or why it is refused
+abbrev pub Outcome : Type 0
+Outcome = Result ℕ Refusal
+
+-- the number of an answer, 0 of a strip
 unfoldable pub number_of : Outcome → ℕ
-number_of (Written n) = 0
-number_of (Refused r) = refusal_number r
+number_of (Ok n) = 0
+number_of (Err r) = refusal_number r
 
 -- a strip's length, 0 of a refusal
 unfoldable pub length_of : Outcome → ℕ
-length_of (Written n) = n
-length_of (Refused r) = 0
+length_of (Ok n) = n
+length_of (Err r) = 0
 
 -- the guard: a predicate, negated or not
 abbrev pub guard : Insn → ℕ
@@ -118,12 +120,12 @@ pub record Decision : Type 0 where
   pub out : List ℕ
 
 abbrev pub refused : Refusal → List ℕ → List ℕ → Decision
-refused r m out = record { outcome = Refused r; marks = m; out = out }
+refused r m out = record { outcome = Err r; marks = m; out = out }
 
 unfoldable pub fitted : ℕ → Insn → List ℕ → List ℕ → Decision
 fitted k i m out =
     cond (leb (length (strip k i)) (length out))
-    (record { outcome = Written (length (strip k i)); marks = marked k i m; out = strip k i ++ drop (length (strip k i)) out })
+    (record { outcome = Ok (length (strip k i)); marks = marked k i m; out = strip k i ++ drop (length (strip k i)) out })
     (refused NoRoom m out)
 
 -- an admitted record is translated if its strip fits

@@ -1,8 +1,6 @@
 -- Records translated in turn into one room (01, demand 3): each gets what lies after the last accepted strip, or the whole room before there is one.
-use Rattle.std.specs.Prelude.{Bool, true, false, cond, List, [], ◌∷◌, ◌++◌, ℕ, ◌+◌, get_or, take, drop}
-use Rattle.translation.specs.declared.answer.Outcome.{Outcome}
-use Rattle.translation.specs.declared.answer.Outcome.TheVariants.{Written, Refused}
-use Rattle.translation.specs.Strip.{Decision, insn_of, strip, decision, length_of}
+use Rattle.std.specs.Prelude.{Bool, true, false, cond, List, [], ◌∷◌, ◌++◌, ℕ, ◌+◌, get_or, take, drop, Ok, Err}
+use Rattle.translation.specs.Strip.{Outcome, Decision, insn_of, strip, decision, length_of}
 
 -- a room, and how many of its bytes accepted strips fill
 pub record Room : Type 0 where
@@ -15,8 +13,8 @@ pub record RecordAndMarks : Type 0 where
   pub marks : List ℕ
 
 abbrev pub is_written : Outcome → Bool
-is_written (Written n) = true
-is_written (Refused f) = false
+is_written (Ok n) = true
+is_written (Err f) = false
 
 -- what translating it into the rest of the room answers
 abbrev pub turn_decision : RecordAndMarks → Room → Decision

@@ -5,8 +5,10 @@ mod answer;
 mod arm;
 mod helper;
 mod insn;
+mod kind;
 mod mode;
+mod op;
 mod writer;
 
-pub use answer::{Outcome, Refusal, Translated, refusal_number, translate};
+pub use answer::{Refusal, Translated, translate};
 pub use insn::Insn;

@@ -1,177 +1,162 @@
-// Writing a strip: strip's writer puts each entry into a lent buffer, and the position is handed on by value. Nothing is asked of a caller: positions
-// and numbers are counted modulo 256, and the buffer has 8 bytes beyond, which is the longest body, so the writer always finds room. No strip comes near it.
-ghost use Rattle.std.specs.Prelude.{◌≡◌, List, ℕ, ◌+◌, ◌*◌, ◌%◌};
+// Writing a strip into a buffer of fixed size. Nothing is asked of a caller: places and numbers are counted modulo 256, and the buffer has 8 bytes
+// beyond, which is the longest body, so an entry always finds room. No strip comes near it.
+ghost use Rattle.std.specs.Prelude.{◌≡◌, ◌+◌, ◌*◌, length, take};
 ghost use Rattle.translation.specs.Insn.{cslot, cword};
-ghost use Rattle.translation.specs.Emit.{view, view_made, Makes, Writes, Raises};
+ghost use Rattle.translation.specs.Ops.{number_of_op};
+ghost use Rattle.translation.specs.Emit.{start, value, Makes, Writes, Raises};
 
-use crate::insn::{Insn, cslot, cword};
-use strip::{
-    Entry, Layout, write_bare, write_cell, write_four, write_one, write_store, write_three,
-    write_two, write_word,
-};
+use crate::insn::Insn;
+use crate::op::Op;
+use std::marker::Model;
+use strip::{Entry, Layout, entry_length, put_entry};
 
-// Where the next byte goes, the next number, and the use mark raised: its slot and how many words of it (0: none).
-// With a value beside it this is 8 bytes, so that it is handed on and back in a register.
-#[derive(Clone, Copy)]
-pub struct Pos {
-    pub words: u16,
-    pub at: u8,
-    pub values: u8,
-    pub slot: u8,
+// A strip so far: its bytes and where the next goes, the next number, and the use mark raised: its slot and how many bytes of it (0: none).
+#[derive(Drop)]
+pub struct Writer {
+    // Kept: an array and the place in it: there is no heap. `need` 0 says that no mark is raised, as in `Buffer` of specs/Emit.antt.
+    buf: [u8; 264],
+    at: u8,
+    next: u8,
+    slot: u8,
+    need: u32,
 }
 
-// The position after an entry or a helper, and the number of its value.
-#[derive(Clone, Copy)]
-pub struct Made {
-    pub pos: Pos,
-    pub value: u8,
+impl Model for Writer {
+    ghost use Rattle.translation.specs.Emit.{Buffer};
+
+    ghost Value = { Buffer };
+
+    ghost view = { λ w. record { list = w.buf; at = w.at; next = w.next; slot = w.slot; need = w.need } };
 }
 
-// The position after the words b and c are fetched, and their numbers.
-#[derive(Clone, Copy)]
-pub struct FetchedBc {
-    pub pos: Pos,
-    pub b: u8,
-    pub c: u8,
-}
-
-// After n bytes.
-fn skip(p: Pos, n: u8) -> Pos
-    ensures { result ≡ record { words = p.words; at = (p.at + n) % 256; values = p.values; slot = p.slot } }
-{
-    Pos {
-        words: p.words,
-        at: ((p.at as u16 + n as u16) % 256) as u8,
-        values: p.values,
-        slot: p.slot,
+impl Writer {
+    pub fn new() -> Writer
+        ensures at_start { result ≡ start result.list }
+        ensures room { length result.list ≡ 264 }
+    {
+        Writer {
+            buf: [0; 264],
+            at: 0,
+            next: 0,
+            slot: 0,
+            need: 0,
+        }
     }
-}
 
-// After n bytes that make a value.
-fn next(p: Pos, n: u8) -> Made
-    ensures { result ≡ record { pos = record { words = p.words; at = (p.at + n) % 256; values = (p.values + 1) % 256; slot = p.slot }; value = p.values } }
-{
-    Made {
-        pos: Pos {
-            words: p.words,
-            at: ((p.at as u16 + n as u16) % 256) as u8,
-            values: ((p.values as u16 + 1) % 256) as u8,
-            slot: p.slot,
-        },
-        value: p.values,
+    // The strip.
+    pub fn bytes(&self) -> &[u8]
+        ensures { result.now ≡ take self.now.at self.now.list }
+    {
+        &self.buf[..self.at as usize]
     }
-}
 
-// A use mark: the word of an instruction's constant slot is used.
-pub fn mark(p: Pos, i: Insn) -> Pos
-    ensures { (l : List ℕ) → Raises (view l p) (view l result) (cslot i) (cword i * 4 + 4) }
-{
-    Pos {
-        words: cword(i) + 1,
-        at: p.at,
-        values: p.values,
-        slot: cslot(i),
+    pub fn slot(&self) -> u8
+        ensures { result ≡ self.now.slot }
+    {
+        self.slot
     }
-}
 
-// A word constant.
-pub fn u(buf: &mut [u8; 264], p: Pos, w: u32) -> Made
-    ensures { Makes (view buf.old p) (view_made buf.new result) (Entry.Word w) }
-{
-    let at = p.at as usize;
-    write_word(buf, at, w);
-    next(p, 5)
-}
+    pub fn need(&self) -> u32
+        ensures { result ≡ self.now.need }
+    {
+        self.need
+    }
 
-// True, false.
-pub fn truth(buf: &mut [u8; 264], p: Pos, k: u8) -> Made
-    ensures { Makes (view buf.old p) (view_made buf.new result) (Entry.Bare k) }
-{
-    let at = p.at as usize;
-    write_bare(buf, at, k);
-    next(p, 1)
-}
+    // An entry's bytes, where the last one's end.
+    fn put(&mut self, e: Entry)
+        ensures { Writes self.old self.new e }
+    {
+        let at = self.at as usize;
+        put_entry(&mut self.buf, Layout::Wide, at, e);
+        self.at = ((at + entry_length(Layout::Wide, e)) % 256) as u8;
+    }
 
-// A load of a cell, a slot.
-pub fn cell(buf: &mut [u8; 264], p: Pos, k: u8, n: u8) -> Made
-    ensures { Makes (view buf.old p) (view_made buf.new result) (Entry.Cell k n) }
-{
-    let at = p.at as usize;
-    write_cell(buf, at, k, n);
-    next(p, 2)
-}
+    // An entry that makes a value, whose number comes back.
+    fn make(&mut self, e: Entry) -> u8
+        ensures { Makes self.old (value self.new result) e }
+    {
+        self.put(e);
+        let n = self.next;
+        self.next = n.wrapping_add(1);
+        n
+    }
 
-pub fn one(buf: &mut [u8; 264], p: Pos, k: u8, a: u8) -> Made
-    ensures { Makes (view buf.old p) (view_made buf.new result) (Entry.One k a) }
-{
-    let at = p.at as usize;
-    write_one(buf, Layout::Wide, at, k, a as u16);
-    next(p, 3)
-}
+    // A use mark: the word of an instruction's constant slot is used.
+    pub fn mark(&mut self, i: Insn)
+        ensures { Raises self.old self.new (cslot i) (cword i * 4 + 4) }
+    {
+        self.slot = i.cslot();
+        self.need = i.cword() as u32 * 4 + 4;
+    }
 
-pub fn two(buf: &mut [u8; 264], p: Pos, k: u8, a: u8, b: u8) -> Made
-    ensures { Makes (view buf.old p) (view_made buf.new result) (Entry.Two k a b) }
-{
-    let at = p.at as usize;
-    write_two(buf, Layout::Wide, at, k, a as u16, b as u16);
-    next(p, 5)
-}
+    // A word constant.
+    pub fn u(&mut self, w: u32) -> u8
+        ensures { Makes self.old (value self.new result) (Entry.Word w) }
+    {
+        self.make(Entry::Word(w))
+    }
 
-pub fn three(buf: &mut [u8; 264], p: Pos, k: u8, a: u8, b: u8, c: u8) -> Made
-    ensures { Makes (view buf.old p) (view_made buf.new result) (Entry.Three k a b c) }
-{
-    let at = p.at as usize;
-    write_three(buf, Layout::Wide, at, k, a as u16, b as u16, c as u16);
-    next(p, 7)
-}
+    // True, false.
+    pub fn truth(&mut self, op: Op) -> u8
+        ensures { Makes self.old (value self.new result) (Entry.Bare (number_of_op op)) }
+    {
+        self.make(Entry::Bare(op as u8))
+    }
 
-pub fn four(buf: &mut [u8; 264], p: Pos, k: u8, a: u8, b: u8, c: u8, d: u8) -> Made
-    ensures { Makes (view buf.old p) (view_made buf.new result) (Entry.Four k a b c d) }
-{
-    let at = p.at as usize;
-    write_four(
-        buf,
-        Layout::Wide,
-        at,
-        k,
-        a as u16,
-        b as u16,
-        c as u16,
-        d as u16,
-    );
-    next(p, 9)
-}
+    // A load of a cell, a slot.
+    pub fn cell(&mut self, op: Op, n: u8) -> u8
+        ensures { Makes self.old (value self.new result) (Entry.Cell (number_of_op op) n) }
+    {
+        self.make(Entry::Cell(op as u8, n))
+    }
 
-pub fn store(buf: &mut [u8; 264], p: Pos, k: u8, n: u8, a: u8) -> Pos
-    ensures { Writes (view buf.old p) (view buf.new result) (Entry.Store k n a) }
-{
-    let at = p.at as usize;
-    write_store(buf, Layout::Wide, at, k, n, a as u16);
-    skip(p, 4)
-}
+    pub fn one(&mut self, op: Op, a: u8) -> u8
+        ensures { Makes self.old (value self.new result) (Entry.One (number_of_op op) a) }
+    {
+        self.make(Entry::One(op as u8, a as u16))
+    }
 
-pub fn note(buf: &mut [u8; 264], p: Pos, n: u8) -> Pos
-    ensures { Writes (view buf.old p) (view buf.new result) (Entry.Cell 110 n) }
-{
-    let at = p.at as usize;
-    write_cell(buf, at, 110, n);
-    skip(p, 2)
-}
+    pub fn two(&mut self, op: Op, a: u8, b: u8) -> u8
+        ensures { Makes self.old (value self.new result) (Entry.Two (number_of_op op) a b) }
+    {
+        self.make(Entry::Two(op as u8, a as u16, b as u16))
+    }
 
-// An open, by its truth.
-pub fn open(buf: &mut [u8; 264], p: Pos, a: u8) -> Pos
-    ensures { Writes (view buf.old p) (view buf.new result) (Entry.One 100 a) }
-{
-    let at = p.at as usize;
-    write_one(buf, Layout::Wide, at, 100, a as u16);
-    skip(p, 3)
-}
+    pub fn three(&mut self, op: Op, a: u8, b: u8, c: u8) -> u8
+        ensures { Makes self.old (value self.new result) (Entry.Three (number_of_op op) a b c) }
+    {
+        self.make(Entry::Three(op as u8, a as u16, b as u16, c as u16))
+    }
 
-// A close, an end.
-pub fn bare(buf: &mut [u8; 264], p: Pos, k: u8) -> Pos
-    ensures { Writes (view buf.old p) (view buf.new result) (Entry.Bare k) }
-{
-    let at = p.at as usize;
-    write_bare(buf, at, k);
-    skip(p, 1)
+    pub fn four(&mut self, op: Op, a: u8, b: u8, c: u8, d: u8) -> u8
+        ensures { Makes self.old (value self.new result) (Entry.Four (number_of_op op) a b c d) }
+    {
+        self.make(Entry::Four(op as u8, a as u16, b as u16, c as u16, d as u16))
+    }
+
+    pub fn store(&mut self, op: Op, n: u8, a: u8)
+        ensures { Writes self.old self.new (Entry.Store (number_of_op op) n a) }
+    {
+        self.put(Entry::Store(op as u8, n, a as u16));
+    }
+
+    pub fn note(&mut self, n: u8)
+        ensures { Writes self.old self.new (Entry.Cell 110 n) }
+    {
+        self.put(Entry::Cell(Op::Unsupported as u8, n));
+    }
+
+    // An open, by its truth.
+    pub fn open(&mut self, a: u8)
+        ensures { Writes self.old self.new (Entry.One 100 a) }
+    {
+        self.put(Entry::One(Op::Open as u8, a as u16));
+    }
+
+    // A close, an end.
+    pub fn bare(&mut self, op: Op)
+        ensures { Writes self.old self.new (Entry.Bare (number_of_op op)) }
+    {
+        self.put(Entry::Bare(op as u8));
+    }
 }

@@ -10,17 +10,9 @@ pub fn read_truths(from: &[u8], at: usize, to: &mut [bool])
     requires { at + length to.old ≤ length from.now }
     ensures { to.new ≡ truths_at (length to.old) at from.now }
 {
-    let mut i = 0;
-    while i < to.len() {
-        to[i] = from[at + i] != 0;
-        i += 1;
+    for (i, b) in from[at..at + to.len()].iter().enumerate() {
+        to[i] = *b != 0;
     }
-}
-
-fn truth_byte(t: bool) -> u8
-    ensures { result ≡ truth_byte t }
-{
-    if t { 1 } else { 0 }
 }
 
 // Truths, to the bytes from a place on.
@@ -28,9 +20,7 @@ pub fn write_truths(from: &[bool], to: &mut [u8], at: usize)
     requires { at + length from.now ≤ length to.old }
     ensures { to.new ≡ sets to.old at (map truth_byte from.now) }
 {
-    let mut i = 0;
-    while i < from.len() {
-        to[at + i] = truth_byte(from[i]);
-        i += 1;
+    for (i, t) in from.iter().enumerate() {
+        to[at + i] = u8::from(*t);
     }
 }

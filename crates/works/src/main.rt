@@ -7,7 +7,7 @@
 mod room;
 mod steps;
 
-ghost use Rattle.std.specs.Prelude.{◌≡◌, ◌+◌, ◌*◌, ◌/◌, ◌%◌, ◌^◌, ◌<◌, ◌≤◌, [], length};
+ghost use Rattle.std.specs.Prelude.{◌≡◌, ◌+◌, ◌*◌, ◌/◌, ◌%◌, ◌^◌, ◌≤◌, [], length};
 ghost use Rattle.strip.specs.Entry.{wide};
 ghost use Rattle.evaluation.specs.Machine.{answer_of, evaluation};
 
@@ -18,25 +18,24 @@ use std::io::Read;
 use steps::in_order;
 use strip::Layout;
 
-fn say(text: &str, to: &impl Print) -> io::Result<()> {
-    to.print(text)
+// Why the lines end early.
+enum Stop {
+    // By 01's number.
+    Refused(u32),
+    Io(io::Error),
 }
 
-fn hex(n: u64, width: usize, to: &impl Print) -> io::Result<()> {
-    print!(to; "{n:0width$x}")
-}
-
-// `refused N`, the last line.
-fn refused(number: u32, to: &impl Print) -> io::Result<()> {
-    println!(to; "refused {number}")
+impl From<io::Error> for Stop {
+    fn from(e: io::Error) -> Stop {
+        Stop::Io(e)
+    }
 }
 
 // The works read no constant, and none is lent.
 fn evaluated(run: &[u8], s: State) -> Evaluated
     ensures { answer_of result ≡ evaluation wide run.now s [] }
 {
-    let none = [0u32; 0];
-    evaluation::evaluate(run, Layout::Wide, s, &none)
+    evaluation::evaluate(run, Layout::Wide, s, &[])
 }
 
 // Register n holds n in each of its four bytes.
@@ -50,29 +49,23 @@ fn fill(regs: &mut [u32]) {
 
 // Three registers and the others as filled; some predicates and all flags are true, so that a carry from before would be seen.
 fn start(r0: u32, r1: u32, r2: u32) -> State {
-    let mut regs = [0u32; 255];
+    let mut regs = [0; 255];
     fill(&mut regs);
     regs[0] = r0;
     regs[1] = r1;
     regs[2] = r2;
     State {
-        regs: regs,
+        regs,
         preds: [false, true, false, true, false, true, false],
         flags: [true; 4],
     }
-}
-
-fn wide(x: u32) -> u64
-    ensures { (result ≡ x) × (result < 2 ^ 32) }
-{
-    x as u64
 }
 
 // The number of 64 bits in two registers.
 fn pair(high: u32, low: u32) -> u64
     ensures { result ≡ high * 2 ^ 32 + low }
 {
-    wide(high) * 0x1_0000_0000 + wide(low)
+    u64::from(high) * 0x1_0000_0000 + u64::from(low)
 }
 
 fn low(n: u64) -> u32
@@ -87,44 +80,21 @@ fn high(n: u64) -> u32
     (n / 0x1_0000_0000) as u32
 }
 
-// Whether the registers from a place on are the same.
-fn same_registers(before: &[u32; 255], after: &[u32; 255], from: usize) -> bool {
-    for n in from..255usize {
-        if before[n] != after[n] {
-            return false;
-        }
+// The registers from a place on and the predicates are the same.
+fn same(a: &State, b: &State, from: usize) -> bool
+    requires { from ≤ 255 }
+{
+    a.regs[from..] == b.regs[from..] && a.preds == b.preds
+}
+
+// ` Z1 S0 C1 O0`
+fn flags(s: &State, to: &impl Print) -> io::Result<()> {
+    for (n, on) in s.flags.iter().enumerate() {
+        let name = ['Z', 'S', 'C', 'O'][n];
+        let bit = u8::from(*on);
+        print!(to; " {name}{bit}")?;
     }
-    true
-}
-
-fn same_predicates(before: &[bool; 7], after: &[bool; 7]) -> bool {
-    for n in 0..7usize {
-        if before[n] != after[n] {
-            return false;
-        }
-    }
-    true
-}
-
-fn truth(name: &str, on: bool, to: &impl Print) -> io::Result<()> {
-    let bit = u8::from(on);
-    print!(to; "{name}{bit}")
-}
-
-fn flags(f: &[bool; 4], to: &impl Print) -> io::Result<()> {
-    truth(" Z", f[0], to)?;
-    truth(" S", f[1], to)?;
-    truth(" C", f[2], to)?;
-    truth(" O", f[3], to)
-}
-
-// The registers from a place on and the predicates are as before.
-fn kept(before: State, after: State, from: usize) -> bool {
-    let r = before.regs;
-    let s = after.regs;
-    let p = before.preds;
-    let q = after.preds;
-    same_registers(&r, &s, from) && same_predicates(&p, &q)
+    Ok(())
 }
 
 // The end of a line: whether every cell that it does not name is as before.
@@ -134,53 +104,46 @@ fn others(kept: bool, to: &impl Print) -> io::Result<()> {
 }
 
 // `count 00000000ffffffff + 1 = 0000000100000000 Z1 S0 C1 O0, others kept`
-fn count_line(before: State, after: State, to: &impl Print) -> io::Result<()> {
-    let r = before.regs;
-    let s = after.regs;
-    let f = after.flags;
-    say("count ", to)?;
-    hex(pair(r[1], r[0]), 16, to)?;
-    say(" + 1 = ", to)?;
-    hex(pair(s[1], s[0]), 16, to)?;
-    flags(&f, to)?;
-    others(kept(before, after, 2), to)
-}
-
-// The flags are the same.
-fn same_flags(a: State, b: State) -> bool {
-    let f = a.flags;
-    let g = b.flags;
-    f[0] == g[0] && f[1] == g[1] && f[2] == g[2] && f[3] == g[3]
+fn count_line(before: &State, after: &State, to: &impl Print) -> io::Result<()> {
+    let old = pair(before.regs[1], before.regs[0]);
+    let new = pair(after.regs[1], after.regs[0]);
+    print!(to; "count {old:016x} + 1 = {new:016x}")?;
+    flags(after, to)?;
+    others(same(before, after, 2), to)
 }
 
 // The work's run ends in the state that its records end in; else a line says so.
-fn compare(run: &[u8], before: State, after: State, to: &impl Print) -> io::Result<()> {
-    let e = evaluated(run, before);
-    let end = e.state;
-    if kept(end, after, 0) && same_flags(end, after) {
+fn compare(run: &[u8], before: State, after: &State, to: &impl Print) -> io::Result<()> {
+    let end = evaluated(run, before).state;
+    if same(&end, after, 0) && end.flags == after.flags {
         return Ok(());
     }
-    say("the run ends in another state\n", to)
+    println!(to; "the run ends in another state")
 }
 
-// So many steps of the count. It answers the refusal's number, 0 where there is none.
-fn count(records: &[u8], run: &[u8], from: u64, steps: u64, to: &impl Print) -> io::Result<u32>
+// Both records of a work, from a state on.
+fn interpreted(records: &[u8], s: State) -> Result<State, Stop>
+    requires { 36 ≤ length records.now }
+{
+    let i = in_order(records, 2, s);
+    match meaning::outcome_number(i.outcome) {
+        0 => Ok(i.state),
+        number => Err(Stop::Refused(number)),
+    }
+}
+
+// So many steps of the count.
+fn count(records: &[u8], run: &[u8], from: u64, steps: u64, to: &impl Print) -> Result<(), Stop>
     requires { 36 ≤ length records.now }
 {
     let mut s = start(low(from), high(from), 0xabcd9fef);
     for _ in 0..steps {
-        let i = in_order(records, 2, s);
-        let o = i.outcome;
-        let after = i.state;
-        let number = meaning::outcome_number(o);
-        if number != 0 {
-            return Ok(number);
-        }
-        compare(run, s, after, to)?;
-        count_line(s, after, to)?;
+        let after = interpreted(records, s)?;
+        compare(run, s, &after, to)?;
+        count_line(&s, &after, to)?;
         s = after;
     }
-    Ok(0)
+    Ok(())
 }
 
 // Before the carry into R1, before the wrap of all 64 bits, at a carry that turns the sign of R1, and at 0.
@@ -192,83 +155,53 @@ const FROM: [u64; 5] = [
     0,
 ];
 
-fn counts(records: &[u8], run: &[u8], to: &impl Print) -> io::Result<u32>
+fn counts(records: &[u8], run: &[u8], to: &impl Print) -> Result<(), Stop>
     requires { 36 ≤ length records.now }
 {
-    for i in 0..5usize {
-        let number = count(records, run, FROM[i], 5, to)?;
-        if number != 0 {
-            return Ok(number);
-        }
+    for from in FROM {
+        count(records, run, from, 5, to)?;
     }
-    Ok(0)
+    Ok(())
 }
 
-fn byte_one(word: u32) -> u64
+fn byte_one(word: u32) -> u32
     ensures { result ≡ word / 2 ^ 8 % 2 ^ 8 }
 {
-    wide(word / 0x100 % 0x100)
+    word / 0x100 % 0x100
 }
 
 // `conditions 7fffffff + 00000001 = 80000000 Z0 S1 C0 O1, byte 9f -> 9a, R2 abcd9fef -> abcd9aef, others kept`
-fn conditions_line(before: State, after: State, to: &impl Print) -> io::Result<()> {
-    let r = before.regs;
-    let s = after.regs;
-    let f = after.flags;
-    say("conditions ", to)?;
-    hex(wide(r[0]), 8, to)?;
-    say(" + ", to)?;
-    hex(wide(r[1]), 8, to)?;
-    say(" = ", to)?;
-    hex(wide(s[0]), 8, to)?;
-    flags(&f, to)?;
-    say(", byte ", to)?;
-    hex(byte_one(r[2]), 2, to)?;
-    say(" -> ", to)?;
-    hex(byte_one(s[2]), 2, to)?;
-    say(", R2 ", to)?;
-    hex(wide(r[2]), 8, to)?;
-    say(" -> ", to)?;
-    hex(wide(s[2]), 8, to)?;
-    others(r[1] == s[1] && kept(before, after, 3), to)
+fn conditions_line(before: &State, after: &State, to: &impl Print) -> io::Result<()> {
+    let (a, b, sum) = (before.regs[0], before.regs[1], after.regs[0]);
+    let (old, new) = (before.regs[2], after.regs[2]);
+    let (old_byte, new_byte) = (byte_one(old), byte_one(new));
+    print!(to; "conditions {a:08x} + {b:08x} = {sum:08x}")?;
+    flags(after, to)?;
+    print!(to; ", byte {old_byte:02x} -> {new_byte:02x}, R2 {old:08x} -> {new:08x}")?;
+    others(b == after.regs[1] && same(before, after, 3), to)
 }
 
-fn condition(
-    records: &[u8],
-    run: &[u8],
-    a: u32,
-    b: u32,
-    r2: u32,
-    to: &impl Print,
-) -> io::Result<u32>
+fn condition(records: &[u8], run: &[u8], s: State, to: &impl Print) -> Result<(), Stop>
     requires { 36 ≤ length records.now }
 {
-    let s = start(a, b, r2);
-    let i = in_order(records, 2, s);
-    let o = i.outcome;
-    let after = i.state;
-    let number = meaning::outcome_number(o);
-    if number == 0 {
-        compare(run, s, after, to)?;
-        conditions_line(s, after, to)?;
-    }
-    Ok(number)
+    let after = interpreted(records, s)?;
+    compare(run, s, &after, to)?;
+    conditions_line(&s, &after, to)?;
+    Ok(())
 }
 
 // Sums that leave none, Z, S, C, ZC, SC, SO, CO, ZCO: no sum of two words leaves other flags.
-const A: [u32; 9] = [
-    1,
-    0,
-    0xffff_fff0,
-    0xffff_ffff,
-    0xffff_ffff,
-    0xffff_ffff,
-    0x7fff_ffff,
-    0x8000_0000,
-    0x8000_0000,
+const SUMS: [(u32, u32); 9] = [
+    (1, 2),
+    (0, 0),
+    (0xffff_fff0, 1),
+    (0xffff_ffff, 2),
+    (0xffff_ffff, 1),
+    (0xffff_ffff, 0xffff_ffff),
+    (0x7fff_ffff, 1),
+    (0x8000_0000, 0xffff_ffff),
+    (0x8000_0000, 0x8000_0000),
 ];
-
-const B: [u32; 9] = [2, 0, 1, 2, 1, 0xffff_ffff, 1, 0xffff_ffff, 0x8000_0000];
 
 // Byte 1 has a number from 0 to 15 in its high half, and zeros or ones in its low half.
 fn with_number(number: u32, half: u32) -> u32 {
@@ -276,47 +209,42 @@ fn with_number(number: u32, half: u32) -> u32 {
 }
 
 // Each sum twice, over all numbers.
-fn conditions(records: &[u8], run: &[u8], to: &impl Print) -> io::Result<u32>
+fn conditions(records: &[u8], run: &[u8], to: &impl Print) -> Result<(), Stop>
     requires { 36 ≤ length records.now }
 {
-    for i in 0..18usize {
-        let sum = i / 2;
-        let r2 = with_number((i % 16) as u32, (i % 2 * 15) as u32);
-        let number = condition(records, run, A[sum], B[sum], r2, to)?;
-        if number != 0 {
-            return Ok(number);
-        }
-    }
-    Ok(0)
-}
-
-// Both works: the first one's run, and after it the second one's.
-fn works(records: &[u8], room: &[u8], first: usize, both: usize, to: &impl Print) -> io::Result<()>
-    requires { (72 ≤ length records.now) × ((first ≤ both) × (both ≤ length room.now)) }
-{
-    let number = counts(&records[0..36], &room[0..first], to)?;
-    if number != 0 {
-        return refused(number, to);
-    }
-    let number = conditions(&records[36..72], &room[first..both], to)?;
-    if number != 0 {
-        refused(number, to)?;
+    for i in 0..18u32 {
+        let (a, b) = SUMS[i as usize / 2];
+        condition(
+            records,
+            run,
+            start(a, b, with_number(i % 16, i % 2 * 15)),
+            to,
+        )?;
     }
     Ok(())
 }
 
+// Both works: the first one's run, and after it the second one's.
+fn works(records: &[u8; 72], to: &impl Print) -> Result<(), Stop> {
+    let mut room = [0; 512];
+    let first = in_turn(&records[..36], 2, empty(), &mut room);
+    let both = in_turn(&records[36..], 2, first, &mut room);
+    if both.number != 0 {
+        return Err(Stop::Refused(both.number));
+    }
+    counts(&records[..36], &room[..first.used], to)?;
+    conditions(&records[36..], &room[first.used..both.used], to)
+}
+
 // Each work is two records.
 fn main(rt: HostRuntime) -> io::Result<()> {
-    let mut input = [0u8; 72];
-    let mut from = rt.stdin();
-    if from.read_exact(&mut input).is_err() {
-        return say("cut\n", &rt);
+    let mut input = [0; 72];
+    if rt.stdin().read_exact(&mut input).is_err() {
+        return println!(rt; "cut");
     }
-    let mut room = [0u8; 512];
-    let first = in_turn(&input[0..36], 2, empty(), &mut room);
-    let both = in_turn(&input[36..72], 2, first, &mut room);
-    if both.number != 0 {
-        return refused(both.number, &rt);
+    match works(&input, &rt) {
+        Ok(()) => Ok(()),
+        Err(Stop::Refused(number)) => println!(rt; "refused {number}"),
+        Err(Stop::Io(e)) => Err(e),
     }
-    works(&input, &room, first.used, both.used, &rt)
 }

@@ -3,9 +3,10 @@ ghost use Rattle.std.specs.Prelude.{◌≡◌, ◌*◌, ◌≤◌, length, drop}
 ghost use Rattle.works.specs.Room.{room_after, step, up_to, room_view};
 ghost use Rattle.translation.specs.Strip.{number_of, length_of, translation};
 
-use translation::Outcome;
+use translation::Refusal;
 
 // How many bytes of the room accepted strips fill, the use marks, and the number of the refusal, 0 where there is none.
+// Kept: a number and no Option, since it is the number that `Room` of specs/Room.antt has.
 #[derive(Clone, Copy)]
 pub struct Turn {
     pub used: usize,
@@ -24,23 +25,13 @@ pub fn empty() -> Turn
     }
 }
 
-// The strip's length, 0 of a refusal.
-fn written(o: Outcome) -> usize
-    ensures { result ≡ length_of o }
+// The strip's length, 0 of a refusal, and the refusal's number, 0 where there is none.
+fn told(o: Result<usize, Refusal>) -> (usize, u32)
+    ensures { (result.0 ≡ length_of o) × (result.1 ≡ number_of o) }
 {
     match o {
-        Outcome::Written(n) => n,
-        Outcome::Refused(r) => 0,
-    }
-}
-
-// The refusal's number, 0 where there is none.
-fn number_of(o: Outcome) -> u32
-    ensures { result ≡ number_of o }
-{
-    match o {
-        Outcome::Written(n) => 0,
-        Outcome::Refused(r) => translation::refusal_number(r),
+        Ok(n) => (n, 0),
+        Err(r) => (0, u32::from(r)),
     }
 }
 
@@ -50,15 +41,13 @@ fn translated(bytes: &[u8], t: Turn, room: &mut [u8]) -> Turn
     ensures result_after { room_view room.new result ≡ room_after (room_view room.old t) (translation bytes.now t.cbuf_used (drop t.used room.old)) }
     ensures room_len_unchanged { (length room.new ≡ length room.old) × ((t.used ≤ result.used) × (result.used ≤ length room.new)) }
 {
-    let from = t.used;
-    let used = t.cbuf_used;
-    let a = translation::translate(bytes, used, &mut room[from..]);
-    let o = a.outcome;
-    let marks = a.cbuf_used;
+    let a = translation::translate(bytes, t.cbuf_used, &mut room[t.used..]);
+    let (written, number) = told(a.outcome);
+    let cbuf_used = a.cbuf_used;
     Turn {
-        used: from + written(o),
-        cbuf_used: marks,
-        number: number_of(o),
+        used: t.used + written,
+        cbuf_used,
+        number,
     }
 }
 
@@ -76,18 +65,15 @@ fn step(bytes: &[u8], t: Turn, room: &mut [u8]) -> Turn
 }
 
 // So many records of a list, in turn.
+// Kept: a count beside the list, which `up_to count records` of specs/Room.antt has.
 pub fn in_turn(records: &[u8], count: usize, start: Turn, room: &mut [u8]) -> Turn
     requires { (18 * count ≤ length records.now) × (start.used ≤ length room.old) }
     ensures result_after { room_view room.new result ≡ up_to count records.now (room_view room.old start) }
     ensures room_len_unchanged { (length room.new ≡ length room.old) × ((start.used ≤ result.used) × (result.used ≤ length room.new)) }
 {
     let mut t = start;
-    let mut n = 0;
-    while n < count {
-        let from = 18 * n;
-        let to = from + 18;
-        t = step(&records[from..to], t, room);
-        n += 1;
+    for n in 0..count {
+        t = step(&records[18 * n..18 * n + 18], t, room);
     }
     t
 }

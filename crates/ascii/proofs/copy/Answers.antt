@@ -1,5 +1,7 @@
-use Rattle.ascii.proofs.Text.{copy_more}
+use Rattle.std.proofs.Common.{◌∙◌, arith}
+use Rattle.ascii.proofs.Text.{part-sets}
 use Rattle.ascii.proofs.copy.Goals as goal
 
-pub loop-i-preserved : goal.loop-i-preserved
-loop-i-preserved c = copy_more c.args.from.now c.args.out.now c.loop-i.out c.args.at c.loop-i.i c.loop-i-test.true c.loop-i.invariant
+pub returns : goal.returns
+returns c = let n = c.copy_from_slice.ensures in let a = c.args in
+    part-sets a.at _ a.out.now c.copy_from_slice.new.self (rw n.after c.requires) (rw n.after (omega arith)) ∙ rw n.after

@@ -17,13 +17,13 @@ pub shape_of-out-then-out-n : goal.shape_of-out-then-out-n
 shape_of-out-then-out-n c = ap length c.pass.ensures.list
 
 pub returns-then-out-n : goal.returns-then-out-n
-returns-then-out-n c = refused-room c.args.layout _ _ _ _ (rw c.other-to.ensures at c.pass.ensures) _ c.in-Bytes.is c.if-out-n.true
+returns-then-out-n c = refused-room c.args.layout _ _ _ _ (rw c.other-to.ensures at c.pass.ensures) _ c.in-Some.is c.if-out-n.true
 
 pub pass-requires-2 : goal.pass-requires-2
-pass-requires-2 c = λ _. rw c.other-to.ensures (asks c.args.layout _ _ _ _ (rw c.other-to.ensures at c.pass.ensures) _ c.in-Bytes.is c.if-out-n.false)
+pass-requires-2 c = λ _. rw c.other-to.ensures (asks c.args.layout _ _ _ _ (rw c.other-to.ensures at c.pass.ensures) _ c.in-Some.is c.if-out-n.false)
 
 pub shape_of-out : goal.shape_of-out
-shape_of-out c = room-kept c.args.layout _ _ _ _ (rw c.other-to.ensures at c.pass.ensures) _ c.in-Bytes.is c.if-out-n.false _ _ (rw c.other-to.ensures at c.pass-2.ensures)
+shape_of-out c = room-kept c.args.layout _ _ _ _ (rw c.other-to.ensures at c.pass.ensures) _ c.in-Some.is c.if-out-n.false _ _ (rw c.other-to.ensures at c.pass-2.ensures)
 
 pub returns : goal.returns
-returns c = accepted c.args.layout _ _ _ _ (rw c.other-to.ensures at c.pass.ensures) _ c.in-Bytes.is c.if-out-n.false _ _ (rw c.other-to.ensures at c.pass-2.ensures)
+returns c = accepted c.args.layout _ _ _ _ (rw c.other-to.ensures at c.pass.ensures) _ c.in-Some.is c.if-out-n.false _ _ (rw c.other-to.ensures at c.pass-2.ensures)

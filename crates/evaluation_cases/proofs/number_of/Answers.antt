@@ -1,10 +1,10 @@
 use Rattle.evaluation.specs.Machine.{told}
 use Rattle.evaluation_cases.proofs.number_of.Goals as goal
 
-pub returns-in-Done : goal.returns-in-Done
+pub returns-in-Ok : goal.returns-in-Ok
 unfolding told
-returns-in-Done c = rw c.in-Done.is
+returns-in-Ok c = rw c.in-Ok.is
 
-pub returns-in-Refused : goal.returns-in-Refused
+pub returns-in-Err : goal.returns-in-Err
 unfolding told
-returns-in-Refused c = rw c.in-Refused.is c.refusal_number.ensures
+returns-in-Err c = rw c.in-Err.is c.from.ensures

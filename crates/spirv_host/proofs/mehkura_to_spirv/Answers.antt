@@ -1,24 +1,12 @@
-use Rattle.spirv.specs.declared.answer.Outcome.TheVariants.{Words, BadShape, BadSigns, BadIds, NoRoom}
+use Rattle.std.proofs.Common.{◌∙◌, Ok, Err}
 use Rattle.spirv.specs.Answer.{answer_of}
-use Rattle.spirv_host.proofs.Answers.{told}
+use Rattle.spirv_host.proofs.Answers.{told, kept}
 use Rattle.spirv_host.proofs.mehkura_to_spirv.Goals as goal
 
-pub returns-in-Words : goal.returns-in-Words
+pub returns-in-Ok : goal.returns-in-Ok
 unfolding answer_of
-returns-in-Words c = told _ _ _ _ _ _ _ _ (Words _ _ _) _ c.in-Words.is c.to_spirv.ensures
+returns-in-Ok c = told _ _ _ _ _ _ _ _ (Ok _) _ c.in-Ok.is c.to_spirv.ensures
 
-pub returns-in-BadShape : goal.returns-in-BadShape
+pub returns-in-Err : goal.returns-in-Err
 unfolding answer_of
-returns-in-BadShape c = told _ _ _ _ _ _ _ _ BadShape _ c.in-BadShape.is c.to_spirv.ensures
-
-pub returns-in-BadSigns : goal.returns-in-BadSigns
-unfolding answer_of
-returns-in-BadSigns c = told _ _ _ _ _ _ _ _ BadSigns _ c.in-BadSigns.is c.to_spirv.ensures
-
-pub returns-in-BadIds : goal.returns-in-BadIds
-unfolding answer_of
-returns-in-BadIds c = told _ _ _ _ _ _ _ _ BadIds _ c.in-BadIds.is c.to_spirv.ensures
-
-pub returns-in-NoRoom : goal.returns-in-NoRoom
-unfolding answer_of
-returns-in-NoRoom c = told _ _ _ _ _ _ _ _ NoRoom _ c.in-NoRoom.is c.to_spirv.ensures
+returns-in-Err c = kept _ _ _ _ _ _ c.from.ensures ∙ told _ _ _ _ _ _ _ _ (Err _) _ c.in-Err.is c.to_spirv.ensures

@@ -5,29 +5,17 @@ use Rattle.stream_host.proofs.Theorems.{fed-state, fed-told}
 use borrow.Author.Rules.{rules}
 use Rattle.stream_host.proofs.mehkura_shape_block.Goals as goal
 
-pub state_of-before-requires : goal.state_of-before-requires
-unfolding shape_block
-state_of-before-requires c = search rules
-
-pub feed-f-requires : goal.feed-f-requires
-unfolding shape_block
-feed-f-requires c = search rules
-
 pub put_state-requires : goal.put_state-requires
 unfolding shape_block
 put_state-requires c = c.if-state-eq45.true
 
-pub number-requires : goal.number-requires
-unfolding shape_block
-number-requires c = search rules
-
 pub shape_of-state-then-state-eq45 : goal.shape_of-state-then-state-eq45
 unfolding shape_block
-shape_of-state-then-state-eq45 c = fed-state _ _ _ _ c.put_state.ensures c.feed-f.ensures ∙ sym c.if-state-eq45.true
+shape_of-state-then-state-eq45 c = fed-state _ _ _ _ c.put_state.ensures c.feed-fed.ensures ∙ sym c.if-state-eq45.true
 
 pub returns-then-state-eq45 : goal.returns-then-state-eq45
 unfolding shape_block
-returns-then-state-eq45 c = rw (eq-eqb _ _ c.if-state-eq45.true) (fed-told _ _ _ _ _ c.state_of-before.ensures c.feed-f.ensures c.put_state.ensures c.number.ensures)
+returns-then-state-eq45 c = rw (eq-eqb _ _ c.if-state-eq45.true) (fed-told _ _ _ _ _ c.state_of.ensures c.feed-fed.ensures c.put_state.ensures c.number.ensures)
 
 pub returns : goal.returns
 unfolding shape_block

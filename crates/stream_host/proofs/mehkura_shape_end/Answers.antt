@@ -4,18 +4,10 @@ use Rattle.strip.specs.Stream.{at_end}
 use borrow.Author.Rules.{rules}
 use Rattle.stream_host.proofs.mehkura_shape_end.Goals as goal
 
-pub state_of-t-requires : goal.state_of-t-requires
-unfolding shape_end
-state_of-t-requires c = search rules
-
-pub at_end-requires : goal.at_end-requires
-unfolding shape_end
-at_end-requires c = search rules
-
 pub returns-then-at_end : goal.returns-then-at_end
 unfolding shape_end
-returns-then-at_end c = rw (ap at_end (sym c.state_of-t.ensures) ∙ sym c.at_end.ensures ∙ c.if-at_end.true)
+returns-then-at_end c = rw (ap at_end (sym c.state_of.ensures) ∙ sym c.at_end.ensures ∙ c.if-at_end.true)
 
 pub returns-else-at_end : goal.returns-else-at_end
 unfolding shape_end
-returns-else-at_end c = rw (ap at_end (sym c.state_of-t.ensures) ∙ sym c.at_end.ensures ∙ c.if-at_end.false)
+returns-else-at_end c = rw (ap at_end (sym c.state_of.ensures) ∙ sym c.at_end.ensures ∙ c.if-at_end.false)

@@ -3,4 +3,4 @@ use Rattle.evaluation.specs.Machine.{answer_of}
 use Rattle.evaluation.proofs.machine.evaluate.Goals as goal
 
 pub returns : goal.returns
-returns c = rw c.outcome_at.ensures (ap answer_of c.pass-ending.ensures)
+returns c = ap answer_of c.pass.ensures

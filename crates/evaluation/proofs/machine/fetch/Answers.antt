@@ -1,4 +1,4 @@
-use Rattle.std.proofs.Common.{sym, rules, le-ltb, lt-ltb}
+use Rattle.std.proofs.Common.{sym, le-ltb, lt-ltb}
 use Rattle.evaluation.specs.Machine.{fetched}
 use Rattle.evaluation.proofs.Cases.{no_address, yes-address}
 use Rattle.evaluation.proofs.machine.fetch.Goals as goal
@@ -6,18 +6,6 @@ use Rattle.evaluation.proofs.machine.fetch.Goals as goal
 pub returns-in_default : goal.returns-in_default
 unfolding fetched
 returns-in_default c = sym (no_address _ _ _ c.in_default.not-Address)
-
-pub overflow_cast-j : goal.overflow_cast-j
-unfolding fetched
-overflow_cast-j c = search rules
-
-pub offset_bounds-constants-j : goal.offset_bounds-constants-j
-unfolding fetched
-offset_bounds-constants-j c = search rules
-
-pub bounds-constants-j : goal.bounds-constants-j
-unfolding fetched
-bounds-constants-j c = search rules
 
 pub returns-then-j-constants : goal.returns-then-j-constants
 unfolding fetched

@@ -1,21 +1,17 @@
-use Rattle.std.proofs.Common.{sym, ap, rules}
-use Rattle.evaluation.specs.Value.{compared}
+use Rattle.std.proofs.Common.{ap}
 use Rattle.evaluation.specs.declared.value.Value.TheVariants.{Truth}
+use Rattle.evaluation.specs.Value.{compared}
 use Rattle.evaluation.proofs.Cases.{no_word, yes-word}
 use Rattle.evaluation.proofs.operation.compare.Goals as goal
 
+pub returns-in-Word-Word : goal.returns-in-Word-Word
+unfolding compared
+returns-in-Word-Word c = rw (c.in-Word-Word.is-0, yes-word, c.in-Word-Word.is-1, yes-word) (ap Truth c.compare_word.ensures)
+
 pub returns-in_default : goal.returns-in_default
 unfolding compared
-returns-in_default c = sym (no_word _ _ _ c.in_default.not-Word)
+returns-in_default c = rw (c.in_default.is-0, yes-word, no_word _ _ _ c.in_default.not-Word-1)
 
-pub returns-in_default-b : goal.returns-in_default-b
+pub returns-in_default-2 : goal.returns-in_default-2
 unfolding compared
-returns-in_default-b c = rw (c.in-Word.is, yes-word) (sym (no_word _ _ _ c.in_default-b.not-Word))
-
-pub compare_word-requires : goal.compare_word-requires
-unfolding compared
-compare_word-requires c = search rules
-
-pub returns : goal.returns
-unfolding compared
-returns c = rw (c.in-Word.is, yes-word, c.in-Word-b.is, yes-word) (ap Truth c.compare_word.ensures)
+returns-in_default-2 c = rw (no_word _ _ _ c.in_default.not-Word-0)

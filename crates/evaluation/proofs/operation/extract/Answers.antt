@@ -1,24 +1,19 @@
-use Rattle.std.proofs.Common.{sym, rules}
 use Rattle.evaluation.specs.Value.{extracted}
 use Rattle.evaluation.proofs.Cases.{no_word, yes-word}
 use Rattle.evaluation.proofs.operation.extract.Goals as goal
 
+pub returns-in-Word-Word-Word : goal.returns-in-Word-Word-Word
+unfolding extracted
+returns-in-Word-Word-Word c = rw (c.in-Word-Word-Word.is-0, yes-word, c.in-Word-Word-Word.is-1, yes-word, c.in-Word-Word-Word.is-2, yes-word) c.extract_word.ensures
+
 pub returns-in_default : goal.returns-in_default
 unfolding extracted
-returns-in_default c = sym (no_word _ _ _ c.in_default.not-Word)
+returns-in_default c = rw (c.in_default.is-0, yes-word, c.in_default.is-1, yes-word, no_word _ _ _ c.in_default.not-Word-2)
 
-pub returns-in_default-b : goal.returns-in_default-b
+pub returns-in_default-2 : goal.returns-in_default-2
 unfolding extracted
-returns-in_default-b c = rw (c.in-Word.is, yes-word) (sym (no_word _ _ _ c.in_default-b.not-Word))
+returns-in_default-2 c = rw (c.in_default.is-0, yes-word, no_word _ _ _ c.in_default.not-Word-1)
 
-pub returns-in_default-c : goal.returns-in_default-c
+pub returns-in_default-3 : goal.returns-in_default-3
 unfolding extracted
-returns-in_default-c c = rw (c.in-Word.is, yes-word, c.in-Word-b.is, yes-word) (sym (no_word _ _ _ c.in_default-c.not-Word))
-
-pub extract_word-requires : goal.extract_word-requires
-unfolding extracted
-extract_word-requires c = search rules
-
-pub returns : goal.returns
-unfolding extracted
-returns c = rw (c.in-Word.is, yes-word, c.in-Word-b.is, yes-word, c.in-Word-c.is, yes-word) c.extract_word.ensures
+returns-in_default-3 c = rw (no_word _ _ _ c.in_default.not-Word-0)

@@ -1,59 +1,20 @@
-use Rattle.std.proofs.Common.{ap, rules, ne_eqb}
+use Rattle.std.proofs.Common.{refl, ap, ◌∙◌, ne_eqb}
 use Rattle.evaluation.specs.declared.value.Value.TheVariants.{Word}
 use Rattle.evaluation.specs.Word.{binary_word}
+use Rattle.evaluation.proofs.Words.{min-is, max-is}
 use Rattle.evaluation.proofs.word.binary_word.Goals as goal
-
-pub add-requires : goal.add-requires
-unfolding binary_word
-add-requires c = search rules
-
-pub subtract-requires : goal.subtract-requires
-unfolding binary_word
-subtract-requires c = search rules
-
-pub multiply-requires : goal.multiply-requires
-unfolding binary_word
-multiply-requires c = search rules
-
-pub shift_left-requires : goal.shift_left-requires
-unfolding binary_word
-shift_left-requires c = search rules
-
-pub shift_right-requires : goal.shift_right-requires
-unfolding binary_word
-shift_right-requires c = search rules
-
-pub shift_right_arithmetic-requires : goal.shift_right_arithmetic-requires
-unfolding binary_word
-shift_right_arithmetic-requires c = search rules
-
-pub u_min-requires : goal.u_min-requires
-unfolding binary_word
-u_min-requires c = search rules
-
-pub s_min-requires : goal.s_min-requires
-unfolding binary_word
-s_min-requires c = search rules
-
-pub u_max-requires : goal.u_max-requires
-unfolding binary_word
-u_max-requires c = search rules
-
-pub s_max-requires : goal.s_max-requires
-unfolding binary_word
-s_max-requires c = search rules
 
 pub returns-in-40 : goal.returns-in-40
 unfolding binary_word
-returns-in-40 c = rw c.in-40.is (ap Word c.add.ensures)
+returns-in-40 c = rw c.in-40.is refl
 
 pub returns-in-41 : goal.returns-in-41
 unfolding binary_word
-returns-in-41 c = rw c.in-41.is (ap Word c.subtract.ensures)
+returns-in-41 c = rw c.in-41.is refl
 
 pub returns-in-42 : goal.returns-in-42
 unfolding binary_word
-returns-in-42 c = rw c.in-42.is (ap Word c.multiply.ensures)
+returns-in-42 c = rw c.in-42.is refl
 
 pub returns-in-43 : goal.returns-in-43
 unfolding binary_word
@@ -81,7 +42,7 @@ returns-in-48 c = rw c.in-48.is
 
 pub returns-in-49 : goal.returns-in-49
 unfolding binary_word
-returns-in-49 c = rw c.in-49.is (ap Word c.u_min.ensures)
+returns-in-49 c = rw c.in-49.is (ap Word (c.min.ensures ∙ min-is _ _))
 
 pub returns-in-50 : goal.returns-in-50
 unfolding binary_word
@@ -89,7 +50,7 @@ returns-in-50 c = rw c.in-50.is (ap Word c.s_min.ensures)
 
 pub returns-in-51 : goal.returns-in-51
 unfolding binary_word
-returns-in-51 c = rw c.in-51.is (ap Word c.u_max.ensures)
+returns-in-51 c = rw c.in-51.is (ap Word (c.max.ensures ∙ max-is _ _))
 
 pub returns-in-52 : goal.returns-in-52
 unfolding binary_word

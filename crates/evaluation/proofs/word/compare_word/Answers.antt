@@ -1,22 +1,6 @@
-use Rattle.std.proofs.Common.{not, ap, rules, ne_eqb}
+use Rattle.std.proofs.Common.{not, ap, ne_eqb}
 use Rattle.evaluation.specs.Word.{compare_word}
 use Rattle.evaluation.proofs.word.compare_word.Goals as goal
-
-pub s_less-requires : goal.s_less-requires
-unfolding compare_word
-s_less-requires c = search rules
-
-pub s_less-requires-in-67 : goal.s_less-requires-in-67
-unfolding compare_word
-s_less-requires-in-67 c = search rules
-
-pub s_less-requires-in-68 : goal.s_less-requires-in-68
-unfolding compare_word
-s_less-requires-in-68 c = search rules
-
-pub s_less-requires-in_default : goal.s_less-requires-in_default
-unfolding compare_word
-s_less-requires-in_default c = search rules
 
 pub returns-in-60 : goal.returns-in-60
 unfolding compare_word

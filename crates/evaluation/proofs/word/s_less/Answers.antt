@@ -1,15 +1,9 @@
-use Rattle.evaluation.specs.Word.{s_less}
-use Rattle.std.proofs.Common.{rules}
+use mathlib.Core.Path.{ap₂, ◌∙◌}
+use lib.Signed.{lt_z}
+use Rattle.evaluation.proofs.Signed.{read_back, signed_less}
 use Rattle.evaluation.proofs.word.s_less.Goals as goal
 
-pub wrapping_add_u32-requires : goal.wrapping_add_u32-requires
-unfolding s_less
-wrapping_add_u32-requires c = search rules
-
-pub wrapping_add_u32-requires-2 : goal.wrapping_add_u32-requires-2
-unfolding s_less
-wrapping_add_u32-requires-2 c = search rules
-
 pub returns : goal.returns
-unfolding s_less
-returns c = rw (c.wrapping_add_u32.ensures.value, c.wrapping_add_u32-2.ensures.value)
+returns c =
+    ap₂ lt_z (read_back _ c.args.x c.ranges.x.fits c.cast_signed.ensures) (read_back _ c.args.y c.ranges.y.fits c.cast_signed-2.ensures)
+    ∙ signed_less c.args.x c.args.y c.ranges.x.fits c.ranges.y.fits

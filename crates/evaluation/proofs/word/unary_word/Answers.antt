@@ -1,27 +1,8 @@
-use Rattle.std.proofs.Common.{ap, rules, ne_eqb}
+use Rattle.std.proofs.Common.{sym, ap, ◌∙◌, ne_eqb, rules}
 use Rattle.evaluation.specs.declared.value.Value.TheVariants.{Word}
 use Rattle.evaluation.specs.Word.{not_word, unary_word}
+use Rattle.evaluation.proofs.Counts.{counted-ones, reversed-bits}
 use Rattle.evaluation.proofs.word.unary_word.Goals as goal
-
-pub bit_reverse-requires : goal.bit_reverse-requires
-unfolding unary_word not_word
-bit_reverse-requires c = search rules
-
-pub bit_count-requires : goal.bit_count-requires
-unfolding unary_word not_word
-bit_count-requires c = search rules
-
-pub s_abs-requires : goal.s_abs-requires
-unfolding unary_word not_word
-s_abs-requires c = search rules
-
-pub find_s_msb-requires : goal.find_s_msb-requires
-unfolding unary_word not_word
-find_s_msb-requires c = search rules
-
-pub find_u_msb-requires : goal.find_u_msb-requires
-unfolding unary_word not_word
-find_u_msb-requires c = search rules
 
 pub returns-in-20 : goal.returns-in-20
 unfolding unary_word not_word
@@ -29,11 +10,11 @@ returns-in-20 c = rw c.in-20.is
 
 pub returns-in-21 : goal.returns-in-21
 unfolding unary_word not_word
-returns-in-21 c = rw c.in-21.is (ap Word c.bit_reverse.ensures)
+returns-in-21 c = rw c.in-21.is (ap Word (c.reverse_bits.ensures ∙ reversed-bits _))
 
 pub returns-in-22 : goal.returns-in-22
 unfolding unary_word not_word
-returns-in-22 c = rw c.in-22.is (ap Word c.bit_count.ensures)
+returns-in-22 c = rw c.in-22.is (ap Word (sym (counted-ones 32 _ (search rules))))
 
 pub returns-in-23 : goal.returns-in-23
 unfolding unary_word not_word

@@ -1,40 +1,25 @@
-use borrow.Author.Tests.{eq-eqb, ne_eqb}
+use mathlib.Core.Path.{refl}
+use native.Mathlib.Omega.{arith}
+use borrow.Author.Tests.{ne_eqb}
 use Rattle.reach.specs.Rows.{load_place}
-use borrow.Author.Rules.{rules}
 use Rattle.reach.proofs.walk.load_place.Goals as goal
 
-pub cell_number-requires : goal.cell_number-requires
+pub returns-in-4 : goal.returns-in-4
 unfolding load_place
-cell_number-requires c = search rules
+returns-in-4 c = rw c.in-4.is c.cell_number.ensures
 
-pub returns-then-k-eq4 : goal.returns-then-k-eq4
+pub returns-in-5 : goal.returns-in-5
 unfolding load_place
-returns-then-k-eq4 c = rw (eq-eqb _ 4 c.if-k-eq4.true) c.cell_number.ensures
+returns-in-5 c = rw c.in-5.is c.cell_number-in-5.ensures
 
-pub cell_number-requires-then-k-eq5 : goal.cell_number-requires-then-k-eq5
+pub returns-in-10 : goal.returns-in-10
 unfolding load_place
-cell_number-requires-then-k-eq5 c = search rules
+returns-in-10 c = rw c.in-10.is c.cell_number-in-10.ensures
 
-pub returns-then-k-eq5 : goal.returns-then-k-eq5
+pub returns-in-110 : goal.returns-in-110
 unfolding load_place
-returns-then-k-eq5 c = rw (ne_eqb _ 4 c.if-k-eq4.false, eq-eqb _ 5 c.if-k-eq5.true) c.cell_number-then-k-eq5.ensures
+returns-in-110 c = rw c.in-110.is refl
 
-pub cell_number-requires-then-k-eq10 : goal.cell_number-requires-then-k-eq10
+pub returns-in_default : goal.returns-in_default
 unfolding load_place
-cell_number-requires-then-k-eq10 c = search rules
-
-pub returns-then-k-eq10 : goal.returns-then-k-eq10
-unfolding load_place
-returns-then-k-eq10 c = rw (ne_eqb _ 4 c.if-k-eq4.false, ne_eqb _ 5 c.if-k-eq5.false, eq-eqb _ 10 c.if-k-eq10.true) c.cell_number-then-k-eq10.ensures
-
-pub returns-then-k-eq110 : goal.returns-then-k-eq110
-unfolding load_place
-returns-then-k-eq110 c = rw (ne_eqb _ 4 c.if-k-eq4.false, ne_eqb _ 5 c.if-k-eq5.false, ne_eqb _ 10 c.if-k-eq10.false, eq-eqb _ 110 c.if-k-eq110.true) (search rules)
-
-pub cell_number-requires-2 : goal.cell_number-requires-2
-unfolding load_place
-cell_number-requires-2 c = search rules
-
-pub returns : goal.returns
-unfolding load_place
-returns c = rw (ne_eqb _ 4 c.if-k-eq4.false, ne_eqb _ 5 c.if-k-eq5.false, ne_eqb _ 10 c.if-k-eq10.false, ne_eqb _ 110 c.if-k-eq110.false) c.cell_number-2.ensures
+returns-in_default c = rw (ne_eqb c.args.k 4 (λ e. omega arith), ne_eqb c.args.k 5 (λ e. omega arith), ne_eqb c.args.k 10 (λ e. omega arith), ne_eqb c.args.k 110 (λ e. omega arith)) c.cell_number-in_default.ensures

@@ -1,28 +1,16 @@
-use borrow.Author.Tests.{eq-eqb, ne_eqb}
+use native.Mathlib.Omega.{arith}
+use borrow.Author.Tests.{ne_eqb}
 use Rattle.reach.specs.Rows.{store_place}
-use borrow.Author.Rules.{rules}
 use Rattle.reach.proofs.walk.store_place.Goals as goal
 
-pub cell_number-requires : goal.cell_number-requires
+pub returns-in-7 : goal.returns-in-7
 unfolding store_place
-cell_number-requires c = search rules
+returns-in-7 c = rw c.in-7.is c.cell_number.ensures
 
-pub returns-then-k-eq7 : goal.returns-then-k-eq7
+pub returns-in-8 : goal.returns-in-8
 unfolding store_place
-returns-then-k-eq7 c = rw (eq-eqb _ 7 c.if-k-eq7.true) c.cell_number.ensures
+returns-in-8 c = rw c.in-8.is c.cell_number-in-8.ensures
 
-pub cell_number-requires-then-k-eq8 : goal.cell_number-requires-then-k-eq8
+pub returns-in_default : goal.returns-in_default
 unfolding store_place
-cell_number-requires-then-k-eq8 c = search rules
-
-pub returns-then-k-eq8 : goal.returns-then-k-eq8
-unfolding store_place
-returns-then-k-eq8 c = rw (ne_eqb _ 7 c.if-k-eq7.false, eq-eqb _ 8 c.if-k-eq8.true) c.cell_number-then-k-eq8.ensures
-
-pub cell_number-requires-2 : goal.cell_number-requires-2
-unfolding store_place
-cell_number-requires-2 c = search rules
-
-pub returns : goal.returns
-unfolding store_place
-returns c = rw (ne_eqb _ 7 c.if-k-eq7.false, ne_eqb _ 8 c.if-k-eq8.false) c.cell_number-2.ensures
+returns-in_default c = rw (ne_eqb c.args.k 7 (λ e. omega arith), ne_eqb c.args.k 8 (λ e. omega arith)) c.cell_number-in_default.ensures

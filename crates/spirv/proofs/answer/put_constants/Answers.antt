@@ -1,22 +1,15 @@
-use Rattle.std.proofs.Common.{ap, arith}
-use Rattle.spirv.specs.Page.{puts}
-use Rattle.spirv.proofs.Tapes.{consts-begin, consts-next, consts-end}
+use Rattle.std.proofs.Common.{arith}
+use Rattle.spirv.proofs.Tapes.{consts-next, consts-end}
 use Rattle.spirv.proofs.answer.put_constants.Goals as goal
 
-pub loop-i-init : goal.loop-i-init
-loop-i-init c = (omega arith, (c.lent-word.ensures, (c.lent-truth.ensures, ap (puts _) (consts-begin _ _ _ _))))
+pub loop-k-init : goal.loop-k-init
+loop-k-init c = (omega (arith, c.first-id.ensures.0), rw c.first-id.ensures.0)
 
-pub bounds-keys-i : goal.bounds-keys-i
-bounds-keys-i c = omega (arith, c.requires, c.loop-i-test.true)
+pub overflow_add-id : goal.overflow_add-id
+overflow_add-id c = record { fits = omega (arith, c.loop-k.invariant.0, c.first-id.ensures.0, c.first-id.ensures.1, c.constants-k-items.ensures.most, c.loop-k-test.true) }
 
-pub nth-requires : goal.nth-requires
-nth-requires c = omega (arith, c.requires, c.loop-i-test.true)
-
-pub loop-i-smaller : goal.loop-i-smaller
-loop-i-smaller c = omega (arith, c.loop-i-test.true)
-
-pub loop-i-preserved : goal.loop-i-preserved
-loop-i-preserved c = (omega (arith, c.loop-i-test.true), (c.loop-i.invariant.1.0, (c.loop-i.invariant.1.1.0, consts-next _ _ _ _ _ c.loop-i-test.true _ _ _ c.loop-i.invariant.1.1.1 (rw (c.nth.ensures, c.loop-i.invariant.1.0, c.loop-i.invariant.1.1.0) at c.put_constant-end.ensures))))
+pub loop-k-preserved : goal.loop-k-preserved
+loop-k-preserved c = (omega (arith, c.loop-k.invariant.0), consts-next _ _ _ _ _ c.loop-k-test.true _ _ _ c.loop-k.invariant.1 c.put_constant.ensures)
 
 pub returns : goal.returns
-returns c = consts-end _ _ _ _ _ c.loop-i-test.false _ _ c.loop-i.invariant.1.1.1
+returns c = rw c.constants-k-items.ensures.same at (consts-end _ _ _ _ c.loop-k-test.false _ _ c.loop-k.invariant.1)

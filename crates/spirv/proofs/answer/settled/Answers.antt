@@ -6,6 +6,6 @@ pub returns-then-w-lt2147483648 : goal.returns-then-w-lt2147483648
 unfolding settled
 returns-then-w-lt2147483648 c = rw (lt-ltb _ _ c.if-w-lt2147483648.true)
 
-pub returns : goal.returns
+pub returns-else-w-lt2147483648 : goal.returns-else-w-lt2147483648
 unfolding settled
-returns c = rw (le-ltb _ _ c.if-w-lt2147483648.false) c.wrapping_add_u32.ensures.value
+returns-else-w-lt2147483648 c = rw (le-ltb _ _ c.if-w-lt2147483648.false)

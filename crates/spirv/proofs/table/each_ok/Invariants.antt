@@ -10,6 +10,3 @@ invariant-loop-i l = Begun l.table l.bound l.heads l.links l.i
 
 abbrev pub decreases-loop-j : goal.decreases-loop-j
 decreases-loop-j l = 303 - l.j
-
-abbrev pub decreases-loop-i : goal.decreases-loop-i
-decreases-loop-i l = l.i

@@ -1,28 +1,16 @@
-use Rattle.std.proofs.Common.{◌+◌, refl, arith, leb-true}
+use Rattle.std.proofs.Common.{◌+◌, ◌-◌, ◌%◌, get_or, refl, arith, leb-true}
 use lib.Bits.{and_le_l, and_le_r}
-use Rattle.spirv.proofs.Tables.{rises_next, rises-end}
+use Rattle.spirv.proofs.Tables.{rises_next, rises-end, wrapped-back}
 use Rattle.spirv.proofs.table.rises.Goals as goal
 
-pub bounds-table-0 : goal.bounds-table-0
-bounds-table-0 c = omega (arith, c.requires)
-
 pub loop-i-init : goal.loop-i-init
-loop-i-init c = (omega arith, rises_next c.args.table.now 0 c.wrapping_sub_u32-high.result c.wrapping_sub_u32-high.result 0 c.wrapping_sub_u32-high.result (omega (arith, c.requires)) (omega arith) c.wrapping_sub_u32-high.ensures.value (omega (arith, c.wrapping_sub_u32-high.type_inv)) (omega (arith, c.shared_slice_known-2-1.given 0)) (omega arith) (omega arith) (λ h. (omega arith, refl)))
-
-pub bounds-table-i : goal.bounds-table-i
-bounds-table-i c = omega (arith, c.requires, c.loop-i-test.true)
-
-pub offset_bounds-table-i-in-loop-i : goal.offset_bounds-table-i-in-loop-i
-offset_bounds-table-i-in-loop-i c = record { fits = omega (arith, c.loop-i-test.true) }
-
-pub bounds-table-i-in-loop-i : goal.bounds-table-i-in-loop-i
-bounds-table-i-in-loop-i c = omega (arith, c.requires, c.loop-i-test.true)
-
-pub loop-i-smaller : goal.loop-i-smaller
-loop-i-smaller c = omega (arith, c.loop-i-test.true)
+loop-i-init c = let f = c.type_inv.table 0 in rises_next c.args.table.now 0 ((0 + (4294967296 - get_or c.args.table.now 0 0)) % 4294967296) _ 0 ((0 + (4294967296 - get_or c.args.table.now 0 0)) % 4294967296) (omega (arith, c.requires)) (omega arith) (wrapped-back c.args.table.now 0 (get_or c.args.table.now 0 0) (omega arith) (omega (arith, f))) (omega arith) (omega (arith, f)) (omega arith) (omega arith) (λ h. (omega arith, refl))
 
 pub loop-i-preserved : goal.loop-i-preserved
-loop-i-preserved c = (omega (arith, c.loop-i-test.true), rises_next c.args.table.now _ c.loop-i.high _ (c.loop-i.i + 1) c.wrapping_sub_u32-high-in-loop-i.result (omega (arith, c.requires, c.loop-i-test.true)) (omega (arith, c.loop-i-test.true)) c.wrapping_sub_u32-high-in-loop-i.ensures.value (omega (arith, c.wrapping_sub_u32-high-in-loop-i.type_inv)) (omega (arith, c.shared_slice_known-in-loop-i-2-1.given (c.loop-i.i + 1))) (and_le_l c.loop-i.high c.wrapping_sub_u32-high-in-loop-i.result) (and_le_r c.loop-i.high c.wrapping_sub_u32-high-in-loop-i.result) c.loop-i.invariant.1)
+loop-i-preserved c =
+    let f = c.type_inv.table c.loop-i.i in
+    let g = c.type_inv.table (c.loop-i.i + 1) in
+    rises_next c.args.table.now (get_or c.args.table.now c.loop-i.i 0) c.loop-i.high _ (c.loop-i.i + 1) ((get_or c.args.table.now c.loop-i.i 0 + (4294967296 - get_or c.args.table.now (c.loop-i.i + 1) 0)) % 4294967296) (omega (arith, c.requires, c.loop-i-test.true)) (omega (arith, c.loop-i-test.true)) (wrapped-back c.args.table.now (get_or c.args.table.now c.loop-i.i 0) (get_or c.args.table.now (c.loop-i.i + 1) 0) (omega (arith, f)) (omega (arith, g))) (omega arith) (omega (arith, g)) (and_le_l c.loop-i.high _) (and_le_r c.loop-i.high _) c.loop-i.invariant
 
 pub returns : goal.returns
-returns c = λ h. rises-end c.args.table.now _ c.loop-i.high (c.loop-i.i + 1) (omega (arith, c.requires, c.loop-i-test.false)) (leb-true _ _ h) c.loop-i.invariant.1
+returns c = λ h. rises-end c.args.table.now _ c.loop-i.high (c.loop-i.i + 1) (omega (arith, c.requires, c.loop-i-test.false)) (leb-true _ _ h) c.loop-i.invariant

@@ -1,9 +1,10 @@
 use mathlib.Core.Path.{◌∙◌}
+use Rattle.std.proofs.Common.{rules}
 use Rattle.strip.proofs.EntryRead.{cut-nil, cut-cons}
 use Rattle.strip.proofs.reader.is_cut.Goals as goal
 
-pub returns-then-s-eq0 : goal.returns-then-s-eq0
-returns-then-s-eq0 c = cut-nil _ c.if-s-eq0.true
+pub returns-then-is_empty : goal.returns-then-is_empty
+returns-then-is_empty c = c.if-is_empty.true ∙ cut-nil _ (search rules)
 
-pub returns : goal.returns
-returns c = c.is_kind.ensures ∙ cut-cons _ c.if-s-eq0.false
+pub returns-else-is_empty : goal.returns-else-is_empty
+returns-else-is_empty c = c.is_kind.ensures ∙ cut-cons _ (search rules)

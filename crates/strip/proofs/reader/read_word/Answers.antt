@@ -1,8 +1,8 @@
-use Rattle.strip.proofs.EntryRead.{short-lt, short-le}
+use Rattle.strip.proofs.EntryRead.{cut, uncut}
 use Rattle.strip.proofs.reader.read_word.Goals as goal
 
-pub returns-then-s-lt5 : goal.returns-then-s-lt5
-returns-then-s-lt5 c = simp (short-lt, c.if-s-lt5.true)
+pub returns-in_err-size : goal.returns-in_err-size
+returns-in_err-size c = rw c.from_residual.ensures (cut _ _ _ c.in_err-size.ensures.cut)
 
 pub returns : goal.returns
-returns c = rw (short-le, c.if-s-lt5.false) (cc)
+returns c = rw (c.in_ok-size.ensures.there.0, c.word_at.ensures) (uncut _ _ _ c.in_ok-size.ensures.there.1)

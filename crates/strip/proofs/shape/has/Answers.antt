@@ -1,11 +1,6 @@
 use borrow.Author.Tests.{lt-ltb, le-ltb}
 use Rattle.strip.specs.Pass.{bit_at}
-use borrow.Author.Rules.{rules}
 use Rattle.strip.proofs.shape.has.Goals as goal
-
-pub overflow_shr-result : goal.overflow_shr-result
-unfolding bit_at
-overflow_shr-result c = search rules
 
 pub returns-then-r-lt64 : goal.returns-then-r-lt64
 unfolding bit_at

@@ -1,3 +1,4 @@
+use mathlib.Core.Path.{◌∙◌}
 use borrow.Author.Tests.{eq-eqb, ne_eqb}
 use Rattle.strip.proofs.Pass.{ready-fresh}
 use Rattle.strip.proofs.Steps.{walk-shape}
@@ -9,5 +10,5 @@ walk-w-requires c = rw c.new.ensures ready-fresh
 pub returns-then-w-run : goal.returns-then-w-run
 returns-then-w-run c = walk-shape _ _ _ c.new.ensures _ c.walk-w.ensures _ (eq-eqb _ _ c.if-w-run.true)
 
-pub returns : goal.returns
-returns c = walk-shape _ _ _ c.new.ensures _ c.walk-w.ensures _ (ne_eqb _ _ c.if-w-run.false)
+pub returns-else-w-run : goal.returns-else-w-run
+returns-else-w-run c = ne_eqb _ _ c.if-w-run.false ∙ walk-shape _ _ _ c.new.ensures _ c.walk-w.ensures _ (ne_eqb _ _ c.if-w-run.false)

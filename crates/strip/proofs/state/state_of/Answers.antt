@@ -1,7 +1,6 @@
 use Rattle.strip.specs.State.{state_of}
 use native.Mathlib.Omega.{arith}
 use borrow.Author.Tests.{eq-eqb, ne_eqb}
-use borrow.Author.Rules.{rules}
 use Rattle.strip.proofs.state.state_of.Goals as goal
 
 pub bounds-s-0 : goal.bounds-s-0
@@ -15,10 +14,6 @@ state_by-requires c = c.if-s-eq45.true
 pub returns-then-s-eq45 : goal.returns-then-s-eq45
 unfolding state_of
 returns-then-s-eq45 c = rw (eq-eqb _ _ c.if-s-eq45.true) c.state_by.ensures
-
-pub refused-requires : goal.refused-requires
-unfolding state_of
-refused-requires c = search rules
 
 pub returns : goal.returns
 unfolding state_of

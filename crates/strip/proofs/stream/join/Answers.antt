@@ -1,36 +1,24 @@
-use mathlib.Core.Path.{◌≡◌, refl, sym, ◌∙◌}
-use mathlib.Core.List.{◌++◌}
-use Prim.Native.Nat.{◌<◌}
+use mathlib.Core.Path.{◌≡◌, sym, ◌∙◌, ap}
+use mathlib.Core.List.{List, ◌++◌}
+use Prim.Native.Nat.{ℕ, ◌+◌, ◌-◌, ◌≤◌}
 use native.Mathlib.Omega.{arith}
-use lib.ListN.{length, length-append, length-set}
-use Rattle.strip.proofs.Blocks.{copy_more}
+use lib.ListN.{length, take, length-append}
+use lib.Seq.{take-append_seam, take-append-add, length-take-le}
+use borrow.Rule.Slice.PartMut.{put_mid}
+use Rattle.std.proofs.Common.{rules, min}
+use Rattle.std.proofs.lemmas.Slice.{take-put_mid}
 use Rattle.strip.proofs.stream.join.Goals as goal
 
-pub loop-i-init : goal.loop-i-init
-loop-i-init c = (omega arith, c.requires.1, refl)
+-- a list, and after it the first elements of another
+joined : (a b post x y : List ℕ) (n : ℕ) → length a ≤ n → n - length a ≤ length b → x ≡ a → y ≡ take (n - length a) b → take n (put_mid (length a) (n - length a) (x ++ post) y) ≡ take n (a ++ b)
+joined a b post x y n l h e f =
+    let m : n ≡ length a + (n - length a) = omega arith in
+    let long : length (take (n - length a) b) ≡ n - length a = length-take-le _ _ h in
+    rw (e, f) (take-put_mid (length a) (n - length a) (a ++ post) (take (n - length a) b) n (omega arith) (omega (arith, length-append a post))
+    ∙ ap (λ (l : List ℕ). l ++ take (n - length a) b) (take-append_seam a post)
+    ∙ sym (ap (λ (k : ℕ). take k (a ++ b)) m ∙ take-append-add a b (n - length a)))
 
-pub byte_at-requires : goal.byte_at-requires
-byte_at-requires c = let n = c.least-n.ensures in let l = c.loop-i-test.true in omega arith
-
-pub bounds-out-i : goal.bounds-out-i
-bounds-out-i c = let n = c.least-n.ensures in let l = c.loop-i-test.true in let i = c.loop-i.invariant.1 in omega arith
-
-pub overflow_add-i : goal.overflow_add-i
-overflow_add-i c = let n = c.least-n.ensures in let l = c.loop-i-test.true in omega arith
-
-pub loop-i-smaller : goal.loop-i-smaller
-loop-i-smaller c = let l = c.loop-i-test.true in omega arith
-
-pub loop-i-preserved : goal.loop-i-preserved
-loop-i-preserved c = let n = c.least-n.ensures in let l = c.loop-i-test.true in let i = c.loop-i.invariant in
-    let h : c.loop-i.i < length c.loop-i.out = omega (arith, i.1) in
-    let k : c.loop-i.i < length (c.args.a.now ++ c.args.b.now) = rw (length-append c.args.a.now c.args.b.now) (omega arith) in
-    (omega arith, (simp length-set i.1), copy_more _ _ _ _ h k c.byte_at.ensures i.2)
-
-pub shape_of-out : goal.shape_of-out
-shape_of-out c = c.loop-i.invariant.1 ∙ sym c.requires.1
-
-pub returns : goal.returns
-returns c = let i = c.loop-i.invariant in let l = c.loop-i-test.false in
-    let e : c.loop-i.i ≡ c.least-n.result = omega (arith, i.0) in
-    record { value = (c.least-n.ensures, i.1); out_after = (rw e at i.2) }
+pub returns-clause-front : goal.returns-clause-front
+returns-clause-front c =
+    let n : c.min-n.result ≡ min 9 (length c.args.a.now + length c.args.b.now) = search rules in
+    joined c.args.a.now c.args.b.now _ _ _ c.min-n.result (omega arith) (omega arith) c.copy_from_slice.ensures.after c.copy_from_slice-2.ensures.after

@@ -1,44 +1,7 @@
 use native.Mathlib.Omega.{arith}
 use Rattle.strip.specs.Entry.{ref_length, immediate_of, refs_of}
 use Rattle.strip.proofs.Encode.{known-length}
-use borrow.Author.Rules.{rules}
 use Rattle.strip.proofs.writer.entry_length.Goals as goal
-
-pub ref_length-n-requires : goal.ref_length-n-requires
-unfolding immediate_of refs_of
-ref_length-n-requires c = search rules
-
-pub overflow_add-result : goal.overflow_add-result
-unfolding immediate_of refs_of
-overflow_add-result c = search rules
-
-pub overflow_add-result-in-One : goal.overflow_add-result-in-One
-unfolding immediate_of refs_of
-overflow_add-result-in-One c = search rules
-
-pub overflow_mul-result : goal.overflow_mul-result
-unfolding immediate_of refs_of
-overflow_mul-result c = search rules
-
-pub overflow_add-result-in-Two : goal.overflow_add-result-in-Two
-unfolding immediate_of refs_of
-overflow_add-result-in-Two c = search rules
-
-pub overflow_mul-result-in-Three : goal.overflow_mul-result-in-Three
-unfolding immediate_of refs_of
-overflow_mul-result-in-Three c = search rules
-
-pub overflow_add-result-in-Three : goal.overflow_add-result-in-Three
-unfolding immediate_of refs_of
-overflow_add-result-in-Three c = search rules
-
-pub overflow_mul-result-in-Four : goal.overflow_mul-result-in-Four
-unfolding immediate_of refs_of
-overflow_mul-result-in-Four c = search rules
-
-pub overflow_add-result-in-Four : goal.overflow_add-result-in-Four
-unfolding immediate_of refs_of
-overflow_add-result-in-Four c = search rules
 
 pub returns-in-Bare : goal.returns-in-Bare
 unfolding immediate_of refs_of

@@ -1,102 +1,105 @@
+use mathlib.Core.List.{[]}
 use mathlib.Core.Path.{refl}
 use native.Mathlib.Omega.{arith}
-use Rattle.strip.specs.Entry.{ref_length, immediate_of, refs_of}
+use native.Mathlib.Numerals.{towards_suc}
+use lib.ListN.{length-set}
+use Rattle.strip.specs.Entry.{ref_length, encode, kind_of, immediate_of, refs_of}
 use Rattle.strip.proofs.Encode.{known-length}
-use Rattle.strip.proofs.Write.{same}
+use Rattle.strip.proofs.Write.{puts-after, puts-after-two, puts-ref, puts-end}
 use Rattle.strip.proofs.writer.put_entry.Goals as goal
 
-pub put_bare-requires : goal.put_bare-requires
+pub bounds-out-at : goal.bounds-out-at
 unfolding immediate_of refs_of
-put_bare-requires c = omega (arith, known-length (ref_length c.args.layout) c.in-Bare.is, c.requires)
+bounds-out-at c = omega (arith, known-length (ref_length c.args.layout) c.in-Bare.is, c.requires)
 
-pub put_word-requires : goal.put_word-requires
+pub bounds-out-at-in-Word : goal.bounds-out-at-in-Word
 unfolding immediate_of refs_of
-put_word-requires c = omega (arith, known-length (ref_length c.args.layout) c.in-Word.is, c.requires)
+bounds-out-at-in-Word c = omega (arith, known-length (ref_length c.args.layout) c.in-Word.is, c.requires)
 
-pub put_cell-requires : goal.put_cell-requires
+pub put_four_bytes-requires : goal.put_four_bytes-requires
 unfolding immediate_of refs_of
-put_cell-requires c = omega (arith, known-length (ref_length c.args.layout) c.in-Cell.is, c.requires)
+put_four_bytes-requires c = simp length-set (omega (arith, known-length (ref_length c.args.layout) c.in-Word.is, c.requires))
 
-pub put_store-requires : goal.put_store-requires
+pub bounds-out-at-in-Cell : goal.bounds-out-at-in-Cell
 unfolding immediate_of refs_of
-put_store-requires c = omega (arith, known-length (ref_length c.args.layout) c.in-Store.is, c.requires)
+bounds-out-at-in-Cell c = omega (arith, known-length (ref_length c.args.layout) c.in-Cell.is, c.requires)
 
-pub put_one-requires : goal.put_one-requires
+pub bounds-out-at-in-Cell-2 : goal.bounds-out-at-in-Cell-2
 unfolding immediate_of refs_of
-put_one-requires c = omega (arith, known-length (ref_length c.args.layout) c.in-One.is, c.requires)
+bounds-out-at-in-Cell-2 c = simp length-set (omega (arith, known-length (ref_length c.args.layout) c.in-Cell.is, c.requires))
 
-pub put_two-requires : goal.put_two-requires
+pub bounds-out-at-in-Store : goal.bounds-out-at-in-Store
 unfolding immediate_of refs_of
-put_two-requires c = omega (arith, known-length (ref_length c.args.layout) c.in-Two.is, c.requires)
+bounds-out-at-in-Store c = omega (arith, known-length (ref_length c.args.layout) c.in-Store.is, c.requires)
 
-pub put_three-requires : goal.put_three-requires
+pub bounds-out-at-in-Store-2 : goal.bounds-out-at-in-Store-2
 unfolding immediate_of refs_of
-put_three-requires c = omega (arith, known-length (ref_length c.args.layout) c.in-Three.is, c.requires)
+bounds-out-at-in-Store-2 c = simp length-set (omega (arith, known-length (ref_length c.args.layout) c.in-Store.is, c.requires))
 
-pub put_four-requires : goal.put_four-requires
+pub put_ref-requires : goal.put_ref-requires
 unfolding immediate_of refs_of
-put_four-requires c = omega (arith, known-length (ref_length c.args.layout) c.in-Four.is, c.requires)
+put_ref-requires c = simp length-set (omega (arith, known-length (ref_length c.args.layout) c.in-Store.is, c.requires))
 
-pub shape_of-out-in-Bare : goal.shape_of-out-in-Bare
+pub bounds-out-at-in-One : goal.bounds-out-at-in-One
 unfolding immediate_of refs_of
-shape_of-out-in-Bare c = same (c.put_bare.ensures (ref_length c.args.layout)) refl
+bounds-out-at-in-One c = omega (arith, known-length (ref_length c.args.layout) c.in-One.is, c.requires)
+
+pub put_refs-requires : goal.put_refs-requires
+unfolding immediate_of refs_of
+put_refs-requires c = simp length-set (omega (arith, known-length (ref_length c.args.layout) c.in-One.is, c.requires))
+
+pub bounds-out-at-in-Two : goal.bounds-out-at-in-Two
+unfolding immediate_of refs_of
+bounds-out-at-in-Two c = omega (arith, known-length (ref_length c.args.layout) c.in-Two.is, c.requires)
+
+pub put_refs-requires-in-Two : goal.put_refs-requires-in-Two
+unfolding immediate_of refs_of
+put_refs-requires-in-Two c = simp length-set (omega (arith, known-length (ref_length c.args.layout) c.in-Two.is, c.requires))
+
+pub bounds-out-at-in-Three : goal.bounds-out-at-in-Three
+unfolding immediate_of refs_of
+bounds-out-at-in-Three c = omega (arith, known-length (ref_length c.args.layout) c.in-Three.is, c.requires)
+
+pub put_refs-requires-in-Three : goal.put_refs-requires-in-Three
+unfolding immediate_of refs_of
+put_refs-requires-in-Three c = simp length-set (omega (arith, known-length (ref_length c.args.layout) c.in-Three.is, c.requires))
+
+pub bounds-out-at-in-Four : goal.bounds-out-at-in-Four
+unfolding immediate_of refs_of
+bounds-out-at-in-Four c = omega (arith, known-length (ref_length c.args.layout) c.in-Four.is, c.requires)
+
+pub put_refs-requires-in-Four : goal.put_refs-requires-in-Four
+unfolding immediate_of refs_of
+put_refs-requires-in-Four c = simp length-set (omega (arith, known-length (ref_length c.args.layout) c.in-Four.is, c.requires))
 
 pub returns-in-Bare : goal.returns-in-Bare
-unfolding immediate_of refs_of
-returns-in-Bare c = rw c.in-Bare.is (c.put_bare.ensures (ref_length c.args.layout))
-
-pub shape_of-out-in-Word : goal.shape_of-out-in-Word
-unfolding immediate_of refs_of
-shape_of-out-in-Word c = same (c.put_word.ensures (ref_length c.args.layout)) refl
+unfolding encode kind_of immediate_of refs_of
+returns-in-Bare c = rw c.in-Bare.is (record { is = refl })
 
 pub returns-in-Word : goal.returns-in-Word
-unfolding immediate_of refs_of
-returns-in-Word c = rw c.in-Word.is (c.put_word.ensures (ref_length c.args.layout))
-
-pub shape_of-out-in-Cell : goal.shape_of-out-in-Cell
-unfolding immediate_of refs_of
-shape_of-out-in-Cell c = same (c.put_cell.ensures (ref_length c.args.layout)) refl
+unfolding encode kind_of immediate_of refs_of
+returns-in-Word c = rw c.in-Word.is (puts-after c.put_four_bytes.ensures)
 
 pub returns-in-Cell : goal.returns-in-Cell
-unfolding immediate_of refs_of
-returns-in-Cell c = rw c.in-Cell.is (c.put_cell.ensures (ref_length c.args.layout))
-
-pub shape_of-out-in-Store : goal.shape_of-out-in-Store
-unfolding immediate_of refs_of
-shape_of-out-in-Store c = same c.put_store.ensures refl
+unfolding encode kind_of immediate_of refs_of
+returns-in-Cell c = rw c.in-Cell.is (record { is = simp towards_suc })
 
 pub returns-in-Store : goal.returns-in-Store
-unfolding immediate_of refs_of
-returns-in-Store c = rw c.in-Store.is c.put_store.ensures
-
-pub shape_of-out-in-One : goal.shape_of-out-in-One
-unfolding immediate_of refs_of
-shape_of-out-in-One c = same c.put_one.ensures refl
+unfolding encode kind_of immediate_of refs_of
+returns-in-Store c = rw c.in-Store.is (puts-after-two (puts-ref (ref_length c.args.layout) c.in-Store.a [] refl c.put_ref.ensures (puts-end (ref_length c.args.layout))))
 
 pub returns-in-One : goal.returns-in-One
-unfolding immediate_of refs_of
-returns-in-One c = rw c.in-One.is c.put_one.ensures
-
-pub shape_of-out-in-Two : goal.shape_of-out-in-Two
-unfolding immediate_of refs_of
-shape_of-out-in-Two c = same c.put_two.ensures refl
+unfolding encode kind_of immediate_of refs_of
+returns-in-One c = rw c.in-One.is (puts-after c.put_refs.ensures)
 
 pub returns-in-Two : goal.returns-in-Two
-unfolding immediate_of refs_of
-returns-in-Two c = rw c.in-Two.is c.put_two.ensures
-
-pub shape_of-out-in-Three : goal.shape_of-out-in-Three
-unfolding immediate_of refs_of
-shape_of-out-in-Three c = same c.put_three.ensures refl
+unfolding encode kind_of immediate_of refs_of
+returns-in-Two c = rw c.in-Two.is (puts-after c.put_refs-in-Two.ensures)
 
 pub returns-in-Three : goal.returns-in-Three
-unfolding immediate_of refs_of
-returns-in-Three c = rw c.in-Three.is c.put_three.ensures
-
-pub shape_of-out-in-Four : goal.shape_of-out-in-Four
-unfolding immediate_of refs_of
-shape_of-out-in-Four c = same c.put_four.ensures refl
+unfolding encode kind_of immediate_of refs_of
+returns-in-Three c = rw c.in-Three.is (puts-after c.put_refs-in-Three.ensures)
 
 pub returns-in-Four : goal.returns-in-Four
-unfolding immediate_of refs_of
-returns-in-Four c = rw c.in-Four.is c.put_four.ensures
+unfolding encode kind_of immediate_of refs_of
+returns-in-Four c = rw c.in-Four.is (puts-after c.put_refs-in-Four.ensures)

@@ -1,10 +1,10 @@
 use Rattle.strip_printer.specs.Line.{goes_on}
 use Rattle.strip_printer.proofs.line.goes_on.Goals as goal
 
-pub returns-in-Written : goal.returns-in-Written
+pub returns-in-Ok : goal.returns-in-Ok
 unfolding goes_on
-returns-in-Written c = rw c.in-Written.is
+returns-in-Ok c = rw c.in-Ok.is
 
-pub returns-in-Refused : goal.returns-in-Refused
+pub returns-in-Err : goal.returns-in-Err
 unfolding goes_on
-returns-in-Refused c = rw (c.in-Refused.is, ← c.refusal_number.ensures)
+returns-in-Err c = rw (c.in-Err.is, ← c.from.ensures)

@@ -1,29 +1,50 @@
-use Prim.Native.Nat.{◌+◌, ◌/◌}
-use mathlib.Core.Path.{◌≡◌, refl, ap, ◌∙◌}
+use Prim.Native.Nat.{suc, ◌+◌, ◌*◌, ◌/◌}
+use mathlib.Core.Path.{◌≡◌, ◌∙◌}
+use mathlib.Core.List.{◌∷◌, [], ◌++◌}
 use native.Mathlib.Omega.{arith}
-use native.Mathlib.Numerals.{add-one}
-use lib.ListN.{length}
-use lib.Seq.{length-sets}
+use lib.ListN.{length, length-append, length-drop}
+use borrow.Author.Rules.{rules}
 use Rattle.strip_printer.specs.Line.{no_text, up_to}
-use Rattle.strip_printer.proofs.Blocks.{stands-begun, piece, up_one, up_none, up-all}
+use Rattle.strip_printer.proofs.Blocks.{stands-begun, cut-is, up_one, up_none, up-all}
 use Rattle.strip_printer.proofs.line.lines.Goals as goal
 
-pub loop-n-init : goal.loop-n-init
-loop-n-init c = (omega arith, refl, omega (arith, c.requires.at_value.0), omega arith, rw up_none (stands-begun c.args.out.now c.args.start c.requires.at_value.0))
+pub loop-record-init : goal.loop-record-init
+loop-record-init c = record {
+  next = search rules;
+  finite = tt;
+  size = search rules;
+  rest = search rules;
+  within = omega arith;
+  at = omega (arith, c.requires.at_value.0);
+  index = omega arith;
+  stands = rw up_none (stands-begun c.args.out.now c.args.start c.requires.at_value.0);
+}
 
-pub step-p-requires : goal.step-p-requires
-step-p-requires c = let l = c.loop-n in (omega (arith, c.requires.input_len_bound.0, c.requires.input_len_bound.1, l.invariant.0, l.invariant.1, l.invariant.2), omega (arith, c.requires.input_len_bound.0, c.requires.at_value.1, l.invariant.3))
+pub loop-record-preserved : goal.loop-record-preserved
+loop-record-preserved c =
+    let l = c.loop-record in
+    let i = l.invariant in
+    let n = length l.yielded in
+    let s = c.in-Some.ensures.steps in
+    let t = c.step-p.ensures in
+    let e : length (l.yielded ++ (c.in-Some.record ∷ [])) ≡ suc n = length-append l.yielded (c.in-Some.record ∷ []) ∙ omega arith in
+    let k = cut-is c.args.input.now c.in-Some.record.now _ _ n _ i.size i.rest s.1.0 s.1.1 s.1.2 in
+    let more = t.by_index c.args.out.now (up_to n c.args.input.now (no_text c.args.start)) i.stands in
+    record {
+      next = search rules;
+      finite = tt;
+      size = s.0 ∙ i.size;
+      rest = rw e k.rest;
+      within = rw e k.within;
+      at = rw e (omega (arith, t.at_bound.0, i.at));
+      index = rw e (omega (arith, t.at_bound.1, i.index));
+      stands = rw (e, ← up_one n c.args.input.now _ (no_text c.args.start) k.piece) more;
+    }
 
-pub loop-n-preserved : goal.loop-n-preserved
-loop-n-preserved c = let l = c.loop-n in let t = c.step-p in let m = c.least-to in
-    let more = t.ensures.by_index c.args.out.now (up_to l.n c.args.input.now (no_text c.args.start)) l.invariant.4 in (
-      omega arith,
-      ap length more.list ∙ simp length-sets,
-      omega (arith, t.ensures.at_bound.0, l.invariant.2),
-      omega (arith, t.ensures.at_bound.1, l.invariant.3),
-      rw (add-one, ← up_one l.n c.args.input.now _ (no_text c.args.start) (piece c.args.input.now l.n m.result m.ensures)) more,
-    )
-
-pub returns : goal.returns
-returns c = let l = c.loop-n in let e : l.n ≡ (length c.args.input.now + 17) / 18 = omega arith in
-    record { stands = rw (← up-all l.n c.args.input.now (no_text c.args.start) e) l.invariant.4; at_bound = (omega (arith, e, c.requires.input_len_bound.0, l.invariant.2), omega (arith, e, c.requires.input_len_bound.0, l.invariant.3)) }
+pub returns-clause-stands : goal.returns-clause-stands
+returns-clause-stands c =
+    let i = c.loop-record.invariant in
+    let n = length c.loop-record.yielded in
+    let none = c.in-None.ensures.steps.1.0 in
+    let e : n ≡ (length c.args.input.now + 17) / 18 = omega (arith, rw i.rest at none, length-drop (18 * n) c.args.input.now, i.within) in
+    rw (← up-all n c.args.input.now (no_text c.args.start) e) i.stands

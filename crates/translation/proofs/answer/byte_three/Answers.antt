@@ -1,23 +1,16 @@
+use borrow.Author.Tests.{eq-eqb, ne_eqb}
 use Rattle.translation.specs.Strip.{byte_three}
-use borrow.Author.Rules.{rules}
+use Rattle.translation.proofs.KindNumbers.{not-i2i}
 use Rattle.translation.proofs.answer.byte_three.Goals as goal
 
-pub bits-requires : goal.bits-requires
+pub returns-then-bits-eq1 : goal.returns-then-bits-eq1
 unfolding byte_three
-bits-requires c = search rules
+returns-then-bits-eq1 c = rw (c.in-I2i.is, ← c.bits.ensures.0, eq-eqb _ _ c.if-bits-eq1.true, ← c.bits-then-bits-eq1.ensures.0)
 
-pub bits-requires-2 : goal.bits-requires-2
+pub returns-else-bits-eq1 : goal.returns-else-bits-eq1
 unfolding byte_three
-bits-requires-2 c = search rules
+returns-else-bits-eq1 c = rw (c.in-I2i.is, ← c.bits.ensures.0, ne_eqb _ _ c.if-bits-eq1.false)
 
-pub both-requires : goal.both-requires
+pub returns-in_default : goal.returns-in_default
 unfolding byte_three
-both-requires c = search rules
-
-pub both-requires-2 : goal.both-requires-2
-unfolding byte_three
-both-requires-2 c = search rules
-
-pub returns : goal.returns
-unfolding byte_three
-returns c = rw (← c.bits.ensures.0, ← c.bits-2.ensures.0, ← c.both.ensures) c.both-2.ensures
+returns-in_default c = rw (not-i2i c.args.k c.in_default.not-I2i)

@@ -7,30 +7,10 @@ use Rattle.translation.specs.Marks.{raise}
 use borrow.Author.Rules.{rules}
 use Rattle.translation.proofs.answer.raise.Goals as goal
 
-pub returns-then-k-ge32 : goal.returns-then-k-ge32
+pub returns-then-k-lt32 : goal.returns-then-k-lt32
 unfolding raise
-returns-then-k-ge32 c = let h : length c.args.marks ≡ 32 = search rules in let k : length c.args.marks ≤ c.args.slot = omega arith in sym (set_out _ _ _ k)
+returns-then-k-lt32 c = rw (← c.max.ensures)
 
-pub offset_bounds-out-k : goal.offset_bounds-out-k
+pub returns-else-k-lt32 : goal.returns-else-k-lt32
 unfolding raise
-offset_bounds-out-k c = search rules
-
-pub bounds-out-k : goal.bounds-out-k
-unfolding raise
-bounds-out-k c = search rules
-
-pub larger-requires : goal.larger-requires
-unfolding raise
-larger-requires c = search rules
-
-pub offset_bounds-out-k-2 : goal.offset_bounds-out-k-2
-unfolding raise
-offset_bounds-out-k-2 c = search rules
-
-pub bounds-out-k-2 : goal.bounds-out-k-2
-unfolding raise
-bounds-out-k-2 c = search rules
-
-pub returns : goal.returns
-unfolding raise
-returns c = rw (← c.larger.ensures)
+returns-else-k-lt32 c = let h : length c.args.marks.now ≡ 32 = search rules in let k : length c.args.marks.now ≤ c.args.slot = omega arith in sym (set_out _ _ _ k)

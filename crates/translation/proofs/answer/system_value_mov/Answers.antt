@@ -1,11 +1,11 @@
 use Rattle.translation.specs.Strip.{system_value_mov}
-use borrow.Author.Rules.{rules}
+use Rattle.translation.proofs.KindNumbers.{not-mov}
 use Rattle.translation.proofs.answer.system_value_mov.Goals as goal
 
-pub both-requires : goal.both-requires
+pub returns-in-Mov : goal.returns-in-Mov
 unfolding system_value_mov
-both-requires c = search rules
+returns-in-Mov c = rw c.in-Mov.is
 
-pub returns : goal.returns
+pub returns-in_default : goal.returns-in_default
 unfolding system_value_mov
-returns c = c.both.ensures
+returns-in_default c = rw (not-mov c.args.k c.in_default.not-Mov)

@@ -5,16 +5,14 @@ use Rattle.works.proofs.steps.in_order.Goals as goal
 
 pub loop-n-init : goal.loop-n-init
 unfolding told
-loop-n-init c = (omega arith, sym (order-none _ _))
+loop-n-init c = sym (order-none _ _)
 
 pub loop-n-preserved : goal.loop-n-preserved
 unfolding told
 loop-n-preserved c = let l = c.loop-n in
-    let z : 18 * l.n + 18 - 18 * l.n ≡ 18 = omega arith in (
-      omega arith,
-      c.step-i.ensures ∙ rw (add-one, l.invariant.1) (order-one l.n c.args.records.now _ _ (ap (λ (k : ℕ). take k (drop (18 * l.n) c.args.records.now)) z)),
-    )
+    let z : 18 * l.n + 18 - 18 * l.n ≡ 18 = omega arith in
+    c.step-i.ensures ∙ rw (add-one, l.invariant) (order-one l.n c.args.records.now _ _ (ap (λ (k : ℕ). take k (drop (18 * l.n) c.args.records.now)) z))
 
 pub returns : goal.returns
 unfolding told
-returns c = let l = c.loop-n in let e : l.n ≡ c.args.count = omega arith in rw (← e) l.invariant.1
+returns c = let l = c.loop-n in let e : l.n ≡ c.args.count = omega arith in rw (← e) l.invariant

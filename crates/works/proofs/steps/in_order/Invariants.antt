@@ -1,10 +1,7 @@
-use Rattle.std.proofs.Common.{◌≡◌, ◌-◌, ◌≤◌}
+use Rattle.std.proofs.Common.{◌≡◌}
 use Rattle.meaning.specs.Interpret.{answer_of}
 use Rattle.works.specs.Steps.{up_to}
 use Rattle.works.proofs.steps.in_order.Given as goal
 
 abbrev pub invariant-loop-n : goal.invariant-loop-n
-invariant-loop-n l = (l.n ≤ l.count) × (answer_of l.i ≡ up_to l.n l.records l.initial.i.state)
-
-abbrev pub decreases-loop-n : goal.decreases-loop-n
-decreases-loop-n l = l.count - l.n
+invariant-loop-n l = (answer_of l.i ≡ up_to l.n l.records l.initial.i.state)

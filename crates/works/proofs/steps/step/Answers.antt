@@ -1,9 +1,14 @@
-use Rattle.std.proofs.Common.{sym, ◌∙◌}
-use Rattle.works.proofs.Order.{step-on, step_past}
+use Rattle.std.specs.Prelude.{Result}
+use Rattle.std.proofs.Common.{ℕ, sym, ap, ◌∙◌}
+use Rattle.meaning.specs.declared.interpreter.Refusal.{Refusal}
+use Rattle.meaning.specs.Interpret.{told}
+use Rattle.works.proofs.Order.{step-on, step_past, refused-number}
 use Rattle.works.proofs.steps.step.Goals as goal
 
-pub returns-then-outcome_number-eq0 : goal.returns-then-outcome_number-eq0
-returns-then-outcome_number-eq0 c = c.interpret.ensures ∙ sym (step-on _ _ (sym c.outcome_number.ensures ∙ c.if-outcome_number-eq0.true))
+pub returns-in-Ok : goal.returns-in-Ok
+unfolding told
+returns-in-Ok c = c.interpret.ensures ∙ sym (step-on _ _ (ap (λ (o : Result (Unit {0}) Refusal). (told o).number) c.in-Ok.is))
 
-pub returns : goal.returns
-returns c = sym (step_past _ _ (λ e. c.if-outcome_number-eq0.false (c.outcome_number.ensures ∙ e)))
+pub returns-in-Err : goal.returns-in-Err
+unfolding told
+returns-in-Err c = sym (step_past _ _ (λ e. refused-number _ (sym (ap (λ (o : Result (Unit {0}) Refusal). (told o).number) c.in-Err.is) ∙ e)))

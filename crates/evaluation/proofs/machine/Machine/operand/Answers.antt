@@ -1,4 +1,4 @@
-use Rattle.std.proofs.Common.{sym, arith, rules, le-ltb, lt-ltb}
+use Rattle.std.proofs.Common.{sym}
 use Rattle.evaluation.specs.State.{with_store}
 use Rattle.evaluation.specs.Progress.{is_running}
 use Rattle.evaluation.proofs.Cases.{no_store, not-running}
@@ -12,14 +12,6 @@ pub returns-in_default-status : goal.returns-in_default-status
 unfolding with_store is_running
 returns-in_default-status c = rw (c.in-Store.is, not-running c.args.self.status c.in_default-status.not-Runs)
 
-pub value_at-requires : goal.value_at-requires
-unfolding with_store is_running
-value_at-requires c = search rules
-
-pub returns-then-r-lt64 : goal.returns-then-r-lt64
-unfolding with_store is_running
-returns-then-r-lt64 c = rw (c.in-Store.is, c.in-Runs.is, lt-ltb _ _ c.if-r-lt64.true) (c.value_at.ensures 64 c.if-r-lt64.true (omega arith))
-
 pub returns : goal.returns
 unfolding with_store is_running
-returns c = rw (c.in-Store.is, c.in-Runs.is, le-ltb _ _ c.if-r-lt64.false)
+returns c = rw (c.in-Store.is, c.in-Runs.is) c.value_at.ensures

@@ -1,4 +1,4 @@
-use Rattle.std.proofs.Common.{sym, rules, ne_eqb}
+use Rattle.std.proofs.Common.{sym, ne_eqb}
 use Rattle.evaluation.specs.State.{loaded, with_cell}
 use Rattle.evaluation.proofs.Cases.{no_cell}
 use Rattle.evaluation.proofs.state.State.load.Goals as goal
@@ -7,25 +7,13 @@ pub returns-in_default : goal.returns-in_default
 unfolding loaded with_cell
 returns-in_default c = sym (no_cell _ c.args.e _ c.in_default.not-Cell)
 
-pub load_register-requires : goal.load_register-requires
-unfolding loaded with_cell
-load_register-requires c = search rules
-
 pub returns-then-k-eq4 : goal.returns-then-k-eq4
 unfolding loaded with_cell
 returns-then-k-eq4 c = rw (c.in-Cell.is, c.if-k-eq4.true) c.load_register.ensures
 
-pub load_predicate-requires : goal.load_predicate-requires
-unfolding loaded with_cell
-load_predicate-requires c = search rules
-
 pub returns-then-k-eq5 : goal.returns-then-k-eq5
 unfolding loaded with_cell
 returns-then-k-eq5 c = rw (c.in-Cell.is, c.if-k-eq5.true) c.load_predicate.ensures
-
-pub load_flag-requires : goal.load_flag-requires
-unfolding loaded with_cell
-load_flag-requires c = search rules
 
 pub returns : goal.returns
 unfolding loaded with_cell

@@ -1,10 +1,5 @@
 use Rattle.strip.specs.Pass.{opened}
-use borrow.Author.Rules.{rules}
 use Rattle.strip.proofs.shape.Shape.opened.Goals as goal
-
-pub refused-requires : goal.refused-requires
-unfolding opened
-refused-requires c = search rules
 
 pub returns-then-self : goal.returns-then-self
 unfolding opened

@@ -1,8 +1,0 @@
-use Rattle.std.proofs.Common.{le-ltb, lt-ltb}
-use Rattle.evaluation.proofs.word.shift_right.Goals as goal
-
-pub returns-then-n-lt32 : goal.returns-then-n-lt32
-returns-then-n-lt32 c = simp (lt-ltb _ _ c.if-n-lt32.true)
-
-pub returns : goal.returns
-returns c = simp (le-ltb _ _ c.if-n-lt32.false)

@@ -1,6 +1,0 @@
-use Rattle.spirv.specs.Instr.{words_of}
-use Rattle.spirv.proofs.pen.make2.Goals as goal
-
-pub returns : goal.returns
-unfolding words_of
-returns c = c.made.ensures _ _ _ _ _ (rw c.wide.ensures at c.put5-at.ensures)

@@ -1,7 +1,0 @@
-use Rattle.std.proofs.Common.{refl}
-use Rattle.spirv.specs.Page.{put_one}
-use Rattle.spirv.proofs.pen.put.Goals as goal
-
-pub returns : goal.returns
-unfolding put_one
-returns c = refl

@@ -1,5 +1,0 @@
-use Rattle.spirv.proofs.Tapes.{puts-last}
-use Rattle.spirv.proofs.pen.put5.Goals as goal
-
-pub returns : goal.returns
-returns c = puts-last _ _ _ _ _ c.put.ensures c.put4-i.ensures

@@ -1,0 +1,11 @@
+use Rattle.translation.specs.Arms.{reverse_if}
+use Rattle.translation.proofs.Follow.{by-no, by-op, by-ret, by-yes}
+use Rattle.translation.proofs.writer.Writer.reverse_if.Goals as goal
+
+pub returns-then-on : goal.returns-then-on
+unfolding reverse_if
+returns-then-on c = by-yes c.if-on.true (by-op c.one.ensures by-ret)
+
+pub returns-else-on : goal.returns-else-on
+unfolding reverse_if
+returns-else-on c = by-no c.if-on.false by-ret
