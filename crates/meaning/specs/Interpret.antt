@@ -1,11 +1,7 @@
 -- What interpreting a record answers (01, 'Who can cause a refusal'), and what a list of records means, one after another.
-use Rattle.std.specs.Prelude.{Bool, cond, not, ◌&&◌, List, [], ◌∷◌, ℕ, ◌/◌, ◌%◌, eqb, leb, length, Result, Ok, Err}
+use Rattle.std.specs.Prelude.{Bool, cond, not, ◌&&◌, List, [], ◌∷◌, ℕ, ◌/◌, ◌%◌, eqb, leb, length}
 use Rattle.evaluation.specs.declared.state.State.{State}
-use Rattle.evaluation.specs.Machine.{Told, tells, refusal_told, Answer, returns}
-use Rattle.translation.specs.Strip.{refusal_number}
-use Rattle.meaning.specs.declared.interpreter.Refusal.{Refusal}
-use Rattle.meaning.specs.declared.interpreter.Refusal.TheVariants.{Record as RecordRefused, Run as RunRefused}
-use Rattle.meaning.specs.declared.interpreter.Interpreted.{Interpreted}
+use Rattle.evaluation.specs.Machine.{Answer, returns}
 use Rattle.meaning.specs.Record.{Record, record_of, bits, constant_slot, constant_word}
 use Rattle.meaning.specs.Meaning.{opcode, runs, never_runs, meaning, reads, lent}
 
@@ -32,19 +28,6 @@ unlent ks i s = runs i s && (reads i && not (lent ks i))
 -- the constant word that a record names: its slot, vec and comp
 unfoldable pub named_word : Record → List ℕ
 named_word i = constant_slot i ∷ constant_word i / 4 ∷ constant_word i % 4 ∷ []
-
--- what is told of a refusal: its number, and with 9 the slot, the vec and the comp
-unfoldable pub refused_told : Refusal → Told
-refused_told (RecordRefused r) = tells (refusal_number r) []
-refused_told (RunRefused r) = refusal_told r
-
--- and of the code's outcome, 0 where nothing is refused
-unfoldable pub told : {T : Type 0} → Result T Refusal → Told
-told (Ok x) = tells 0 []
-told (Err r) = refused_told r
-
-abbrev pub answer_of : Interpreted → Answer
-answer_of r = returns (told r.outcome).number (told r.outcome).carried r.state
 
 -- the state is that of the meaning, or the start where the record is refused
 unfoldable pub interpretation : List ℕ → State → List ℕ → Answer

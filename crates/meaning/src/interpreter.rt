@@ -2,7 +2,8 @@
 ghost use Rattle.std.specs.Prelude.{◌≡◌};
 ghost use Rattle.strip.specs.Entry.{wide};
 ghost use Rattle.evaluation.specs.Machine.{evaluation};
-ghost use Rattle.meaning.specs.Interpret.{refused_told, told, answer_of, interpretation};
+ghost use Rattle.meaning.specs.Interpret.{interpretation};
+ghost use Rattle.meaning.specs.Told.{refused_told, told, answer_of};
 
 use evaluation::State;
 use strip::Layout;
@@ -20,7 +21,7 @@ pub enum Refusal {
 impl From<Refusal> for u32 {
     ghost from_gives = { λ r n. n ≡ (refused_told r).number };
 
-    #[tactic(auto, unfolding(crate::specs::Interpret::refused_told))]
+    #[tactic(auto, unfolding(crate::specs::Told::refused_told))]
     fn from(r: Refusal) -> u32 {
         match r {
             Refusal::Record(r) => r.into(),
@@ -37,7 +38,7 @@ pub struct Interpreted {
 }
 
 // 01's number, 0 where nothing is refused.
-#[tactic(auto, unfolding(crate::specs::Interpret::told))]
+#[tactic(auto, unfolding(crate::specs::Told::told))]
 pub fn outcome_number(o: Result<(), Refusal>) -> u32
     ensures { result ≡ (told o).number }
 {

@@ -60,19 +60,22 @@ module _ (len : ℕ) where
   unfolding written_list written_answer has_room
   put s i e size q h p = let f = le-leb (i + length (encode len e)) (length s) (omega arith) in record { list = rw (p.is, f); says = rw (f, q) }
 
-  -- what is written is read back, with its length: the writer and the reader agree
+  -- what is put where there is room is read back, with its length: the writer and the reader agree
+  pub read-put : (s s' : List ℕ) (i : ℕ) (e : Entry) → Formed len e → i + length (encode len e) ≤ length s → Puts s i (encode len e) s' → read_entry len (drop i s') ≡ Some (e, length (encode len e))
+  read-put s s' i e f room p =
+      let rest : List ℕ = drop (i + length (encode len e)) s in
+      let at : drop i s' ≡ encode len e ++ rest =
+      ap (drop i) (p.is ∙ sets-eq (encode len e) s i room ∙ append_assoc (take i s) (encode len e) rest) ∙ drop_at (take i s) (encode len e ++ rest) i (length-take-le i s (omega arith))
+      in
+      ap (read_entry len) at ∙ read_back len e f rest
+
+  -- and so is what is written
   pub read-written : (s s' : List ℕ) (i n : ℕ) (e : Entry) → Formed len e → Writes len s i e s' (Some n) → read_entry len (drop i s') ≡ Some (e, n)
   unfolding written_list written_answer has_room
   read-written s s' i n e f w = go (has_room len s i e) refl w.list w.says
     where
       go : (b : Bool) → has_room len s i e ≡ b → s' ≡ cond b (sets s i (encode len e)) s → Some n ≡ cond b (Some (length (encode len e))) None → read_entry len (drop i s') ≡ Some (e, n)
-      go true h l a =
-          let room : i + length (encode len e) ≤ length s = leb-true _ _ h in
-          let rest : List ℕ = drop (i + length (encode len e)) s in
-          let at : drop i s' ≡ encode len e ++ rest =
-          ap (drop i) (l ∙ sets-eq (encode len e) s i room ∙ append_assoc (take i s) (encode len e) rest) ∙ drop_at (take i s) (encode len e ++ rest) i (length-take-le i s (omega arith))
-          in
-          ap (read_entry len) at ∙ read_back len e f rest ∙ let q : length (encode len e) ≡ n = cc in ap (λ (m : ℕ). Some (e, m)) q
+      go true h l a = read-put s s' i e f (leb-true _ _ h) (record { is = l }) ∙ let q : length (encode len e) ≡ n = cc in ap (λ (m : ℕ). Some (e, m)) q
       go false h l a = let z : ◌≡◌ {A = ℕ} 0 1 = cc in absurd (omega arith)
 
 -- where there is room, the bytes stand

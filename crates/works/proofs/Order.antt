@@ -8,7 +8,8 @@ use Rattle.translation.specs.declared.answer.Refusal.TheVariants.{BadLength, Unk
 use Rattle.translation.specs.Strip.{refusal_number}
 use Rattle.meaning.specs.declared.interpreter.Refusal.{Refusal}
 use Rattle.meaning.specs.declared.interpreter.Refusal.TheVariants.{Record, Run}
-use Rattle.meaning.specs.Interpret.{refused_told, told, interpretation}
+use Rattle.meaning.specs.Interpret.{interpretation}
+use Rattle.meaning.specs.Told.{refused_told, told}
 use Rattle.works.specs.Steps.{step, up_to}
 
 pub order-one : (n : ℕ) (l x : List ℕ) (s : State) → x ≡ take 18 (drop (18 * n) l) → step x (up_to n l s) ≡ up_to (suc n) l s

@@ -1,6 +1,6 @@
 // Records interpreted one after another. `specs/Steps.antt` says what comes back, by the meanings.
 ghost use Rattle.std.specs.Prelude.{◌≡◌, ◌*◌, ◌≤◌, length};
-ghost use Rattle.meaning.specs.Interpret.{answer_of};
+ghost use Rattle.meaning.specs.Told.{answer_of};
 ghost use Rattle.works.specs.Steps.{step, up_to};
 
 use evaluation::State;

@@ -1,4 +1,4 @@
-use Rattle.std.proofs.Common.{◌∙◌, Ok, Err}
+use Rattle.std.proofs.Common.{◌∙◌, Ok, Err, arith}
 use Rattle.spirv.specs.Answer.{answer_of}
 use Rattle.spirv_host.proofs.Answers.{told, kept}
 use Rattle.spirv_host.proofs.mehkura_to_spirv.Goals as goal
@@ -9,4 +9,4 @@ returns-in-Ok c = told _ _ _ _ _ _ _ _ (Ok _) _ c.in-Ok.is c.to_spirv.ensures
 
 pub returns-in-Err : goal.returns-in-Err
 unfolding answer_of
-returns-in-Err c = kept _ _ _ _ _ _ c.from.ensures ∙ told _ _ _ _ _ _ _ _ (Err _) _ c.in-Err.is c.to_spirv.ensures
+returns-in-Err c = kept _ _ _ _ _ _ (omega (arith, c.from.ensures)) ∙ told _ _ _ _ _ _ _ _ (Err _) _ c.in-Err.is c.to_spirv.ensures

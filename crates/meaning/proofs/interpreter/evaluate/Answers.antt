@@ -1,5 +1,5 @@
 use Rattle.evaluation.specs.Machine.{told}
-use Rattle.meaning.specs.Interpret.{refused_told, told as outcome_told}
+use Rattle.meaning.specs.Told.{refused_told, told as outcome_told}
 use Rattle.meaning.proofs.Interpreting.{evaluated-told}
 use Rattle.meaning.proofs.interpreter.evaluate.Goals as goal
 

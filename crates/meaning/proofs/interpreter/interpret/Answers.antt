@@ -2,7 +2,7 @@ use mathlib.Core.Path.{◌≡◌, refl, ◌∙◌}
 use lib.ListN.{length}
 use native.Mathlib.Omega.{arith}
 use Rattle.translation.proofs.Stays.{Proper}
-use Rattle.meaning.specs.Interpret.{refused_told, told}
+use Rattle.meaning.specs.Told.{refused_told, told}
 use Rattle.meaning.proofs.Interpreting.{array-words, written-fits, refused-interpreted, written-interpreted}
 use borrow.Author.Rules.{rules}
 use Rattle.meaning.proofs.interpreter.interpret.Goals as goal

@@ -1,9 +1,11 @@
 use Prim.Native.Nat.{suc, ◌+◌, ◌*◌, ◌/◌}
-use mathlib.Core.Path.{◌≡◌, ◌∙◌}
+use mathlib.Core.Path.{◌≡◌, ap, ◌∙◌}
 use mathlib.Core.List.{◌∷◌, [], ◌++◌}
 use native.Mathlib.Omega.{arith}
 use lib.ListN.{length, length-append, length-drop}
 use borrow.Author.Rules.{rules}
+use lib.Seq.{take_all}
+use Rattle.std.specs.Slice.Iter.{chunks_rest}
 use Rattle.strip_printer.specs.Line.{no_text, up_to}
 use Rattle.strip_printer.proofs.Blocks.{stands-begun, cut-is, up_one, up_none, up-all}
 use Rattle.strip_printer.proofs.line.lines.Goals as goal
@@ -13,7 +15,7 @@ loop-record-init c = record {
   next = search rules;
   finite = tt;
   size = search rules;
-  rest = search rules;
+  rest = ap chunks_rest c.into_iter-record-iterator.ensures.into_iter_gives ∙ c.chunks-record-items.ensures.rest ∙ search (rules, take_all);
   within = omega arith;
   at = omega (arith, c.requires.at_value.0);
   index = omega arith;

@@ -1,5 +1,5 @@
 use Rattle.std.proofs.Common.{◌≡◌, ℕ, ◌+◌, ◌-◌, ◌*◌, take, drop, sym, ap, ◌∙◌, add-one, arith}
-use Rattle.meaning.specs.Interpret.{told}
+use Rattle.meaning.specs.Told.{told}
 use Rattle.works.proofs.Order.{order-one, order-none}
 use Rattle.works.proofs.steps.in_order.Goals as goal
 

@@ -1,5 +1,5 @@
 use Rattle.std.proofs.Common.{◌≡◌}
-use Rattle.meaning.specs.Interpret.{answer_of}
+use Rattle.meaning.specs.Told.{answer_of}
 use Rattle.works.specs.Steps.{up_to}
 use Rattle.works.proofs.steps.in_order.Given as goal
 

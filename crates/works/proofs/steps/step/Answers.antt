@@ -1,7 +1,7 @@
 use Rattle.std.specs.Prelude.{Result}
 use Rattle.std.proofs.Common.{ℕ, sym, ap, ◌∙◌}
 use Rattle.meaning.specs.declared.interpreter.Refusal.{Refusal}
-use Rattle.meaning.specs.Interpret.{told}
+use Rattle.meaning.specs.Told.{told}
 use Rattle.works.proofs.Order.{step-on, step_past, refused-number}
 use Rattle.works.proofs.steps.step.Goals as goal
 
