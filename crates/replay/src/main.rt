@@ -59,7 +59,7 @@ fn expectation(head: &[u8; 26]) -> Expected {
     }
 }
 
-// What a room holds before, so that a byte that is written or moved is seen. It is made once: made for each translation, it took half as long again.
+// What a room holds before, so that a byte that is written or moved is seen. It is made once: with one for each translation a replay took nearly three times as long.
 fn pattern() -> [u8; 300] {
     let mut room = [0; 300];
     for (i, byte) in room.iter_mut().enumerate() {
