@@ -7,4 +7,4 @@ use Rattle.evaluation.proofs.machine.Machine.constant.Goals as goal
 
 pub returns : goal.returns
 unfolding effect_of kind_of
-returns c = λ s cs. makes _ _ _ cs s _ _ c.push.ensures.machine true 1 c.value.ensures refl (step-word _ _) refl _ _ c.push.ensures.values (λ t. refl)
+returns c = λ s cs. makes _ _ _ cs s _ _ c.put.ensures.machine true 1 c.value.ensures refl (step-word _ _) refl _ _ (λ some. c.put.ensures.values) (λ t. refl)
